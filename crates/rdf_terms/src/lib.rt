@@ -1,0 +1,12 @@
+//! The vocabulary of datasets: terms, quads and the documents that readers give.
+#![tactic(auto)]
+
+pub use bytes::Bytes;
+pub use memory::NoMemory;
+pub use term::{Label, Literal, LiteralKind, Prefix, Quad, Term};
+pub use term_text::TermText;
+
+mod bytes;
+mod memory;
+mod term;
+mod term_text;
