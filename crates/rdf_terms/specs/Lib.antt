@@ -4,3 +4,4 @@ pub mod Terms
 pub mod Dataset
 pub mod Isomorphism
 pub mod CanonicalForm
+pub mod Document

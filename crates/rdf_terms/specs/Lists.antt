@@ -1,5 +1,5 @@
 -- Lists: membership, distinct elements, the same elements in another order, and texts in byte order.
-use Rattle.std.specs.Prelude.{◌≡◌, ℕ, Bool, not, ◌⊎◌, List, [], ◌∷◌, ◌++◌, if◌then◌else◌}
+use Rattle.std.specs.Prelude.{◌≡◌, ℕ, zero, suc, Bool, not, ◌⊎◌, List, [], ◌∷◌, ◌++◌, if◌then◌else◌}
 use Rattle.std.specs.Cmp.Lexicographic.{slice_cmp}
 use Rattle.std.specs.Ordering.{nat_cmp, is_gt, is_lt}
 
@@ -12,6 +12,11 @@ In x (y ∷ ys) = (x ≡ y) ⊎ In x ys
 abbrev pub AreDistinct : {A : Type 0} → List A → Type 0
 AreDistinct [] = Unit {0}
 AreDistinct (x ∷ xs) = (¬ (In x xs)) × AreDistinct xs
+
+-- the numbers below n, ascending
+abbrev pub numbers_below : ℕ → List ℕ
+numbers_below zero = []
+numbers_below (suc n) = numbers_below n ++ n ∷ []
 
 -- the same elements, each as often, in some order
 pub data Permutes {A : Type 0} : List A → List A → Type 0 where

@@ -3,10 +3,12 @@
 
 pub use bytes::Bytes;
 pub use memory::NoMemory;
+pub use table::TermTable;
 pub use term::{Label, Literal, LiteralKind, Prefix, Quad, Term};
 pub use term_text::TermText;
 
 mod bytes;
 mod memory;
+mod table;
 mod term;
 mod term_text;

@@ -1,0 +1,104 @@
+-- What a document holds: its terms by number, its quads by the numbers of their terms, and what it calls its nodes.
+use Rattle.std.specs.Prelude.{◌≡◌, ℕ, ◌<◌, ◌≤◌, ◌+◌, ◌*◌, ◌⊎◌, Bool, List, [], ◌∷◌, ◌++◌, map, filter, length, Option, Some, None, IfSome, slice_get, slice_index_or, All}
+use Rattle.std.specs.List.{list_any}
+use Rattle.rdf_terms.specs.Lists.{In, AreDistinct, numbers_below}
+use Rattle.rdf_terms.specs.Terms.{Statement, IsValidStatement}
+use Rattle.rdf_terms.specs.Dataset.{Dataset, IsUsed, mentions}
+use Rattle.rdf_terms.specs.CanonicalForm.{place_of}
+use Rattle.rdf_terms.specs.Isomorphism.{relabel_statement}
+use Rattle.rdf_terms.specs.declared.term.Term.{Term}
+use Rattle.rdf_terms.specs.declared.term.Term.TheVariants.{Blank}
+use Rattle.rdf_terms.specs.declared.term.Quad.{Quad}
+use Rattle.rdf_terms.specs.declared.term.Label.{Label}
+use Rattle.rdf_terms.specs.declared.term.Label.TheVariants.{Anonymous}
+
+-- term k has the number k, and label k is that of node k
+pub record Document : Type 0 where
+  pub terms : List Term
+  pub quads : List Quad
+  pub labels : List Label
+
+-- ---- from numbers to what they stand for
+
+-- the term with this number; past the last one it is never asked for
+abbrev pub term_at : List Term → ℕ → Term
+term_at terms n = slice_index_or terms n (Blank 0)
+
+abbrev pub graph_name_at : List Term → Option ℕ → Option Term
+graph_name_at terms None = None
+graph_name_at terms (Some n) = Some (term_at terms n)
+
+abbrev pub statement : List Term → Quad → Statement
+statement terms q = record { subject = term_at terms q.s; predicate = term_at terms q.p; object = term_at terms q.o; graph_name = graph_name_at terms q.g }
+
+-- the numbers of the quad are those of terms
+pub record IsInRange (terms : List Term) (q : Quad) : Type 0 where
+  pub s : q.s < length terms
+  pub p : q.p < length terms
+  pub o : q.o < length terms
+  pub g : IfSome q.g (λ g. g < length terms)
+
+-- the quads by their terms, in order of first addition
+abbrev pub statements : Document → List Statement
+statements d = map (statement d.terms) d.quads
+
+-- the dataset of the document: its nodes are those with a label
+abbrev pub dataset : Document → Dataset
+dataset d = record { nodes = length d.labels; statements = statements d }
+
+-- ---- how lists grow
+
+-- the new list is the old one with further elements behind it
+abbrev pub Extends : {A : Type 0} → List A → List A → Type 0
+Extends {A} old new = (more : List A) × (new ≡ old ++ more)
+
+-- the element is in the new list: it was there, and nothing changes, or it is the last
+abbrev pub Adds : {A : Type 0} → List A → A → List A → Type 0
+Adds old x new = ((new ≡ old) × In x old) ⊎ ((new ≡ old ++ x ∷ []) × (¬ (In x old)))
+
+-- the element is added, and n is its number in the new list
+pub record Interns {A : Type 0} (old new : List A) (x : A) (n : ℕ) : Type 0 where
+  pub at : slice_get new n ≡ Some x
+  pub adds : Adds old x new
+
+-- ---- validity
+
+-- a document that is being read, in which a node may still stand in no quad
+pub record IsDraft (d : Document) : Type 0 where
+  pub in_range : All (IsInRange d.terms) d.quads
+  pub valid : All (IsValidStatement (length d.labels)) (statements d)
+  pub distinct : AreDistinct (statements d)
+  pub distinct_labels : AreDistinct d.labels
+  -- each term is one of a quad
+  pub term_used : (n : ℕ) → In (Blank n) d.terms → IsUsed (statements d) n
+  pub terms_bound : length d.terms ≤ 4 * length d.quads
+  pub quads_bound : length d.quads ≤ 1000000000
+  pub labels_bound : length d.labels ≤ 4294967295
+
+-- a document that was read whole: each node stands in a quad
+pub record IsDocument (d : Document) : Type 0 where
+  pub draft : IsDraft d
+  pub used : (n : ℕ) → n < length d.labels → IsUsed (statements d) n
+
+-- ---- nodes that stand in no quad are left out, and the others are numbered anew in their order
+
+abbrev pub is_mentioned : List Statement → ℕ → Bool
+is_mentioned sts n = list_any (mentions n) sts
+
+abbrev pub used_nodes : Document → List ℕ
+used_nodes d = filter (is_mentioned (statements d)) (numbers_below (length d.labels))
+
+abbrev pub number_or_zero : Option ℕ → ℕ
+number_or_zero None = 0
+number_or_zero (Some k) = k
+
+-- the place of a node among those that are used
+abbrev pub new_number : Document → ℕ → ℕ
+new_number d n = number_or_zero (place_of (used_nodes d) n)
+
+abbrev pub label_at : List Label → ℕ → Label
+label_at labels n = slice_index_or labels n (Anonymous 0)
+
+pub record Finishes (d whole : Document) : Type 0 where
+  pub statements_are : statements whole ≡ map (relabel_statement (new_number d)) (statements d)
+  pub labels_are : whole.labels ≡ map (label_at d.labels) (used_nodes d)

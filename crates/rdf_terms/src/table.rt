@@ -1,0 +1,84 @@
+ghost use Rattle.std.specs.Prelude.{◌≡◌, ◌<◌, ◌≤◌, ◌^◌, ◌↔◌, [], length, take, Some, IsSome, IfSome, IsNone, OnErr, IfOk, IsTrue, slice_get};
+ghost use Rattle.std.specs.Option.{option_copied};
+ghost use Rattle.rdf_terms.specs.Lists.{In, AreDistinct};
+ghost use Rattle.rdf_terms.specs.Document.{Interns};
+
+use crate::{NoMemory, Term};
+use indexmap::IndexSet;
+use std::alloc::Global;
+use std::marker::Model;
+
+/// Terms by number: each term once, numbered from 0 in the order in which they came.
+#[derive(Drop)]
+pub struct TermTable {
+    terms: IndexSet<Term>,
+}
+
+impl Model for TermTable {
+    ghost use Rattle.std.specs.Prelude.{List, ◌^◌, ◌<◌, length};
+    ghost use Rattle.rdf_terms.specs.Lists.{AreDistinct};
+    ghost use Rattle.rdf_terms.specs.declared.term.Term.{Term};
+
+    ghost Value = { List Term };
+
+    ghost view = { λ t. t.terms.keys };
+
+    ghost invariant = { λ t. (length t.terms.keys < 2 ^ 32) × AreDistinct t.terms.keys };
+}
+
+impl TermTable {
+    pub fn new(alloc: Global) -> Self
+        ensures { result ≡ [] }
+    {
+        TermTable {
+            terms: IndexSet::new(alloc),
+        }
+    }
+
+    /// How many terms there are, which is the number that the next new one gets.
+    pub fn len(&self) -> u32
+        ensures len { result ≡ length self.now }
+        ensures distinct { AreDistinct self.now }
+    {
+        self.terms.len() as u32
+    }
+
+    pub fn is_empty(&self) -> bool
+        ensures { IsTrue result ↔ (self.now ≡ []) }
+    {
+        self.terms.is_empty()
+    }
+
+    /// The number of the term: the old one where it is there, else the next.
+    pub fn intern(&mut self, term: Term) -> Result<u32, NoMemory>
+        requires { length self.old < 4294967295 }
+        ensures ok { IfOk result (Interns self.old self.new term) }
+        ensures err { OnErr result (self.new ≡ self.old) }
+        ensures distinct { AreDistinct self.new }
+    {
+        let (index, _) = self.terms.insert_full(term)?;
+        Ok(index as u32)
+    }
+
+    pub fn get(&self, number: u32) -> Option<&Term>
+        ensures term { option_copied result ≡ slice_get self.now number }
+        ensures found { IsSome result ↔ (number < length self.now) }
+    {
+        self.terms.get_index(number as usize)
+    }
+
+    pub fn find(&self, term: &Term) -> Option<u32>
+        ensures found { IfSome result (λ n. slice_get self.now n ≡ Some term.now) }
+        ensures none { IsNone result ↔ (¬ (In term.now self.now)) }
+    {
+        let index = self.terms.get_index_of(term)?;
+        Some(index as u32)
+    }
+
+    // Takes the terms from this number on away again.
+    pub(crate) fn truncate(&mut self, len: u32)
+        ensures { self.new ≡ take len self.old }
+    {
+        self.terms.truncate(len as usize);
+    }
+}
