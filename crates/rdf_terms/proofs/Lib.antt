@@ -1,2 +1,5 @@
 pub mod Membership
 pub mod SameTerm
+pub mod Growing
+pub mod Adding
+pub mod Naming

@@ -61,6 +61,18 @@ pub record Interns {A : Type 0} (old new : List A) (x : A) (n : ℕ) : Type 0 wh
   pub at : slice_get new n ≡ Some x
   pub adds : Adds old x new
 
+-- the term is one of the statement
+abbrev pub IsTermOf : Term → Statement → Type 0
+IsTermOf t st = (t ≡ st.subject) ⊎ ((t ≡ st.predicate) ⊎ ((t ≡ st.object) ⊎ (Some t ≡ st.graph_name)))
+
+-- q is the statement by numbers, and the table has grown by the terms of the statement that were not there
+pub record Numbers (old new : List Term) (st : Statement) (q : Quad) : Type 0 where
+  pub in_range : IsInRange new q
+  pub statement_is : statement new q ≡ st
+  pub bound : length new ≤ length old + 4
+  pub more : (t : Term) → In t new → In t old ⊎ IsTermOf t st
+  pub known : ((t : Term) → IsTermOf t st → In t old) → new ≡ old
+
 -- ---- validity
 
 -- a document that is being read, in which a node may still stand in no quad

@@ -2,12 +2,14 @@
 #![tactic(auto)]
 
 pub use bytes::Bytes;
+pub use draft::Draft;
 pub use memory::NoMemory;
 pub use table::TermTable;
 pub use term::{Label, Literal, LiteralKind, Prefix, Quad, Term};
 pub use term_text::TermText;
 
 mod bytes;
+mod draft;
 mod memory;
 mod table;
 mod term;

@@ -1,5 +1,5 @@
 use Rattle.std.proofs.Common.{◌≡◌, ◌<◌, ◌+◌, Bool, true, false, ℕ, sym, ap, ◌∙◌, arith, length, Some, if◌then◌else◌}
-use Rattle.rdf_terms.proofs.Membership.{AreDistinct-from_test, inserted, TellsEqual}
+use Rattle.rdf_terms.proofs.Membership.{AreDistinct-from_test, inserted}
 use Rattle.rdf_terms.proofs.SameTerm.{terms_tell}
 use Rattle.rdf_terms.specs.contracts.term.TermPartialEq.TheImpl.{eq-value}
 use Rattle.rdf_terms.proofs.table.TermTable.intern.Goals as goal

@@ -1,6 +1,5 @@
-use Rattle.std.proofs.Common.{◌<◌, arith, length, length-take}
+use Rattle.std.proofs.Common.{arith, length-take}
 use Rattle.rdf_terms.proofs.Membership.{AreDistinct-take}
-use Rattle.rdf_terms.specs.declared.term.Term.{Term}
 use Rattle.rdf_terms.proofs.table.TermTable.truncate.Goals as goal
 
 pub invariant_of-self : goal.invariant_of-self

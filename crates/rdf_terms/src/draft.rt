@@ -1,0 +1,103 @@
+ghost use Rattle.std.specs.Prelude.{◌≡◌, ◌<◌, ◌≤◌, ◌+◌, ◌↔◌, [], length, IfOk, OnErr, IsTrue};
+ghost use Rattle.rdf_terms.specs.Lists.{In, AreDistinct};
+ghost use Rattle.rdf_terms.specs.Terms.{IsValidStatement};
+ghost use Rattle.rdf_terms.specs.Document.{statements, Extends, Adds, Interns, Numbers};
+
+use crate::{Label, NoMemory, Quad, Term, TermTable};
+use indexmap::IndexSet;
+use std::alloc::Global;
+use std::marker::Model;
+
+/// A document that is being read, in which a node may still stand in no quad.
+#[derive(Drop)]
+pub struct Draft {
+    terms: TermTable,
+    quads: IndexSet<Quad>,
+    labels: IndexSet<Label>,
+}
+
+impl Model for Draft {
+    ghost use Rattle.rdf_terms.specs.Document.{Document, IsDraft};
+
+    ghost Value = { Document };
+
+    ghost view = { λ d. record { terms = d.terms; quads = d.quads.keys; labels = d.labels.keys } };
+
+    ghost invariant = { λ d. IsDraft (record { terms = d.terms; quads = d.quads.keys; labels = d.labels.keys }) };
+}
+
+// The quad of these terms, which get numbers where they have none.
+fn number_terms(
+    terms: &mut TermTable,
+    s: Term,
+    p: Term,
+    o: Term,
+    g: Option<Term>,
+) -> Result<Quad, NoMemory>
+    requires { length terms.old + 4 ≤ 4294967295 }
+    ensures numbers { IfOk result (Numbers terms.old terms.new (record { subject = s; predicate = p; object = o; graph_name = g })) }
+    ensures extends { Extends terms.old terms.new }
+    ensures distinct { AreDistinct terms.new }
+{
+    let s = terms.intern(s)?;
+    let p = terms.intern(p)?;
+    let o = terms.intern(o)?;
+    let g = match g {
+        Some(graph_name) => Some(terms.intern(graph_name)?),
+        None => None,
+    };
+    Ok(Quad { s, p, o, g })
+}
+
+impl Draft {
+    /// No node and no quad.
+    pub fn new(alloc: Global) -> Self
+        ensures { result ≡ record { terms = []; quads = []; labels = [] } }
+    {
+        Draft {
+            terms: TermTable::new(alloc),
+            quads: IndexSet::new(alloc),
+            labels: IndexSet::new(alloc),
+        }
+    }
+
+    /// The number of the node with this label: the old one where it is there, else the next.
+    pub fn node(&mut self, label: Label) -> Result<u32, NoMemory>
+        requires { length self.old.labels < 4294967295 }
+        ensures ok { IfOk result (Interns self.old.labels self.new.labels label) }
+        ensures statements { statements self.new ≡ statements self.old }
+        ensures err { OnErr result (self.new ≡ self.old) }
+    {
+        let (index, _) = self.labels.insert_full(label)?;
+        Ok(index as u32)
+    }
+
+    /// Adds a quad by its terms, and says whether it is new.
+    pub fn add(&mut self, s: Term, p: Term, o: Term, g: Option<Term>) -> Result<bool, NoMemory>
+        requires valid { IsValidStatement (length self.old.labels) (record { subject = s; predicate = p; object = o; graph_name = g }) }
+        requires room { length self.old.quads < 1000000000 }
+        ensures adds { IfOk result (λ _. Adds (statements self.old) (record { subject = s; predicate = p; object = o; graph_name = g }) (statements self.new)) }
+        ensures new { IfOk result (λ new. IsTrue new ↔ (¬ (In (record { subject = s; predicate = p; object = o; graph_name = g }) (statements self.old)))) }
+        ensures labels { self.new.labels ≡ self.old.labels }
+        ensures err { OnErr result (self.new ≡ self.old) }
+    {
+        let before = self.terms.len();
+        let Ok(quad) = number_terms(&mut self.terms, s, p, o, g) else {
+            self.terms.truncate(before);
+            return Err(NoMemory);
+        };
+        let Ok(new) = self.quads.insert(quad) else {
+            self.terms.truncate(before);
+            return Err(NoMemory);
+        };
+        Ok(new)
+    }
+
+    /// The number of distinct quads.
+    pub fn quad_count(&self) -> u64
+        ensures quads { result ≡ length self.now.quads }
+        ensures statements { result ≡ length (statements self.now) }
+    {
+        self.quads.len() as u64
+    }
+}
