@@ -3,3 +3,4 @@ pub mod SameTerm
 pub mod Growing
 pub mod Adding
 pub mod Naming
+pub mod Moving

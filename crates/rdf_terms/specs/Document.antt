@@ -1,10 +1,9 @@
 -- What a document holds: its terms by number, its quads by the numbers of their terms, and what it calls its nodes.
-use Rattle.std.specs.Prelude.{◌≡◌, ℕ, ◌<◌, ◌≤◌, ◌+◌, ◌*◌, ◌⊎◌, Bool, List, [], ◌∷◌, ◌++◌, map, filter, length, Option, Some, None, IfSome, slice_get, slice_index_or, All}
+use Rattle.std.specs.Prelude.{◌≡◌, ℕ, ◌<◌, ◌≤◌, ◌+◌, ◌*◌, ◌⊎◌, Bool, false, List, [], ◌∷◌, ◌++◌, map, filter, length, Option, Some, None, IfSome, slice_get, slice_index, slice_index_or, All}
 use Rattle.std.specs.List.{list_any}
 use Rattle.rdf_terms.specs.Lists.{In, AreDistinct, numbers_below}
 use Rattle.rdf_terms.specs.Terms.{Statement, IsValidStatement}
 use Rattle.rdf_terms.specs.Dataset.{Dataset, IsUsed, mentions}
-use Rattle.rdf_terms.specs.CanonicalForm.{place_of}
 use Rattle.rdf_terms.specs.Isomorphism.{relabel_statement}
 use Rattle.rdf_terms.specs.declared.term.Term.{Term}
 use Rattle.rdf_terms.specs.declared.term.Term.TheVariants.{Blank}
@@ -97,20 +96,25 @@ pub record IsDocument (d : Document) : Type 0 where
 abbrev pub is_mentioned : List Statement → ℕ → Bool
 is_mentioned sts n = list_any (mentions n) sts
 
-abbrev pub used_nodes : Document → List ℕ
-used_nodes d = filter (is_mentioned (statements d)) (numbers_below (length d.labels))
+-- those of the first nodes that some quad mentions
+abbrev pub used_below : List Statement → ℕ → List ℕ
+used_below sts n = filter (is_mentioned sts) (numbers_below n)
 
-abbrev pub number_or_zero : Option ℕ → ℕ
-number_or_zero None = 0
-number_or_zero (Some k) = k
+-- a node's new number is the number of used nodes before it
+abbrev pub new_number : List Statement → ℕ → ℕ
+new_number sts n = length (used_below sts n)
 
--- the place of a node among those that are used
-abbrev pub new_number : Document → ℕ → ℕ
-new_number d n = number_or_zero (place_of (used_nodes d) n)
+-- whether this place is marked
+abbrev pub mark_in : List Bool → ℕ → Bool
+mark_in marks n = slice_index_or marks n false
+
+-- the number in this place
+abbrev pub number_in : List ℕ → ℕ → ℕ
+number_in numbers n = slice_index numbers n
 
 abbrev pub label_at : List Label → ℕ → Label
 label_at labels n = slice_index_or labels n (Anonymous 0)
 
 pub record Finishes (d whole : Document) : Type 0 where
-  pub statements_are : statements whole ≡ map (relabel_statement (new_number d)) (statements d)
-  pub labels_are : whole.labels ≡ map (label_at d.labels) (used_nodes d)
+  pub statements_are : statements whole ≡ map (relabel_statement (new_number (statements d))) (statements d)
+  pub labels_are : whole.labels ≡ map (label_at d.labels) (used_below (statements d) (length d.labels))

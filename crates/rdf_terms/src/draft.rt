@@ -1,9 +1,10 @@
-ghost use Rattle.std.specs.Prelude.{◌≡◌, ◌<◌, ◌≤◌, ◌+◌, ◌↔◌, [], length, IfOk, OnErr, IsTrue};
+ghost use Rattle.std.specs.Prelude.{◌≡◌, ℕ, ◌<◌, ◌≤◌, ◌+◌, ◌↔◌, [], length, IfOk, OnErr, IsTrue};
 ghost use Rattle.rdf_terms.specs.Lists.{In, AreDistinct};
 ghost use Rattle.rdf_terms.specs.Terms.{IsValidStatement};
+ghost use Rattle.rdf_terms.specs.Dataset.{IsUsed};
 ghost use Rattle.rdf_terms.specs.Document.{statements, Extends, Adds, Interns, Numbers};
 
-use crate::{Label, NoMemory, Quad, Term, TermTable};
+use crate::{Label, NoMemory, Parsed, Quad, Term, TermTable};
 use indexmap::IndexSet;
 use std::alloc::Global;
 use std::marker::Model;
@@ -99,5 +100,18 @@ impl Draft {
         ensures statements { result ≡ length (statements self.now) }
     {
         self.quads.len() as u64
+    }
+
+    /// The document that was read.
+    pub fn finish(self) -> Result<Parsed, NoMemory>
+        requires { (n : ℕ) → n < length self.labels → IsUsed (statements self) n }
+        ensures { IfOk result (λ parsed. parsed ≡ self) }
+    {
+        let Draft {
+            terms,
+            quads,
+            labels,
+        } = self;
+        Ok(Parsed::new(terms, quads, labels))
     }
 }

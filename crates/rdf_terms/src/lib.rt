@@ -4,6 +4,7 @@
 pub use bytes::Bytes;
 pub use draft::Draft;
 pub use memory::NoMemory;
+pub use parsed::Parsed;
 pub use table::TermTable;
 pub use term::{Label, Literal, LiteralKind, Prefix, Quad, Term};
 pub use term_text::TermText;
@@ -11,6 +12,7 @@ pub use term_text::TermText;
 mod bytes;
 mod draft;
 mod memory;
+mod parsed;
 mod table;
 mod term;
 mod term_text;

@@ -1,7 +1,9 @@
-ghost use Rattle.std.specs.Prelude.{◌≡◌, ◌<◌, ◌≤◌, ◌^◌, ◌↔◌, [], length, take, Some, IsSome, IfSome, IsNone, OnErr, IfOk, IsTrue, slice_get};
+ghost use Rattle.std.specs.Prelude.{◌≡◌, ℕ, map, ◌<◌, ◌≤◌, ◌^◌, ◌↔◌, [], length, take, Some, IsSome, IfSome, IsNone, OnErr, IfOk, IsTrue, slice_get};
 ghost use Rattle.std.specs.Option.{option_copied};
 ghost use Rattle.rdf_terms.specs.Lists.{In, AreDistinct};
-ghost use Rattle.rdf_terms.specs.Document.{Interns};
+ghost use Rattle.rdf_terms.specs.Isomorphism.{relabel_term};
+ghost use Rattle.rdf_terms.specs.Document.{Interns, number_in};
+ghost use Rattle.rdf_terms.specs.declared.term.Term.TheVariants.{Blank};
 
 use crate::{NoMemory, Term};
 use indexmap::IndexSet;
@@ -24,6 +26,16 @@ impl Model for TermTable {
     ghost view = { λ t. t.terms.keys };
 
     ghost invariant = { λ t. (length t.terms.keys < 2 ^ 32) × AreDistinct t.terms.keys };
+}
+
+fn renumbered_term(term: Term, numbers: &[u32]) -> Term
+    requires { (n : ℕ) → term ≡ Blank n → n < length numbers.now }
+    ensures { result ≡ relabel_term (number_in numbers.now) term }
+{
+    match term {
+        Term::Blank(node) => Term::Blank(numbers[node as usize]),
+        other => other,
+    }
 }
 
 impl TermTable {
@@ -73,6 +85,20 @@ impl TermTable {
     {
         let index = self.terms.get_index_of(term)?;
         Some(index as u32)
+    }
+
+    // The same terms in the same order, with each blank node under its new number.
+    pub(crate) fn renumbered(self, alloc: Global, numbers: &[u32]) -> Result<Self, NoMemory>
+        requires known { (n : ℕ) → In (Blank n) self → n < length numbers.now }
+        requires distinct { AreDistinct (map (relabel_term (number_in numbers.now)) self) }
+        ensures { IfOk result (λ t. t ≡ map (relabel_term (number_in numbers.now)) self) }
+    {
+        let TermTable { terms } = self;
+        let mut fresh = TermTable::new(alloc);
+        for term in terms {
+            fresh.intern(renumbered_term(term, numbers))?;
+        }
+        Ok(fresh)
     }
 
     // Takes the terms from this number on away again.
