@@ -4,3 +4,7 @@ pub mod Growing
 pub mod Adding
 pub mod Naming
 pub mod Moving
+pub mod Permutations
+pub mod TextOrder
+pub mod SortedTexts
+pub mod Numerals
