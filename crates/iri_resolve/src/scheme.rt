@@ -1,0 +1,34 @@
+ghost use Rattle.std.specs.Prelude.{◌≡◌, ◌≤◌, ◌↔◌, IsTrue, length};
+ghost use Rattle.std.specs.List.{prefix_len};
+ghost use Rattle.iri_resolve.specs.Scheme.{begins_with_scheme};
+ghost use Rattle.rdf_terms.specs.Terms.{is_scheme_byte, HasScheme};
+
+// Whether the byte may follow the first letter of a scheme.
+fn goes_on(byte: u8) -> bool
+    ensures { result ≡ is_scheme_byte byte }
+{
+    byte.is_ascii_alphanumeric() || byte == b'+' || byte == b'-' || byte == b'.'
+}
+
+// How many bytes at the front may stand in a scheme.
+fn scheme_len(text: &[u8]) -> usize
+    ensures is { result ≡ prefix_len is_scheme_byte text.now }
+    ensures within { result ≤ length text.now }
+{
+    text.iter().take_while(|byte| goes_on(**byte)).count()
+}
+
+// Whether the bytes begin with a scheme and `:`.
+fn begins_with_scheme(text: &[u8]) -> bool
+    ensures { result ≡ begins_with_scheme text.now }
+{
+    let end = scheme_len(text);
+    end < text.len() && text[end] == b':' && text[0].is_ascii_alphabetic()
+}
+
+/// Whether the text begins with a scheme and `:` (RFC 3986, section 3.1).
+pub fn has_scheme(text: &str) -> bool
+    ensures { IsTrue result ↔ HasScheme text.now }
+{
+    begins_with_scheme(text.as_bytes())
+}
