@@ -1,0 +1,9 @@
+mod LineEnds
+mod Boundaries
+mod White
+mod Terminals
+mod LineGrammar
+mod ValidLine
+mod ReadLine
+mod Room
+mod DocumentLines
