@@ -1,0 +1,70 @@
+-- Places in a list of distinct numbers.
+use Rattle.std.proofs.Common.{◌≡◌, ◌≢◌, ℕ, suc, ◌+◌, ◌<◌, ◌≤◌, ◌==◌, Bool, true, false, if◌then◌else◌, List, [], ◌∷◌, Option, Some, None, IsSome, length, get_or, set, refl, sym, ap, subst, ◌∙◌, inl, inr, arith, below_more, eq-eqb, true≢false}
+use Rattle.std.specs.List.{IsDistinct, AllByRecursion}
+use Rattle.std.proofs.lemmas.Bool.{eqb-true, ne_eqb}
+use Rattle.std.proofs.lemmas.List.{get_or-set_other, get_or-set_same}
+use Rattle.std.proofs.lemmas.Map.Steps.{length-le_from_distinct_below}
+use Rattle.std.proofs.lemmas.Option.{slice_get-get_or, get_or_from_slice_get, slice_get_within}
+use Rattle.rdf_terms.specs.Lists.{In, AreDistinct}
+use Rattle.rdf_terms.specs.CanonicalForm.{place_of, after_first}
+use Rattle.rdf_terms.proofs.Membership.{one_place, place_in, present}
+use Rattle.canonical_writer.specs.Places.{TellsPlaces}
+
+-- ---- the place of a number
+
+some_place : (o : Option ℕ) → IsSome o → (k : ℕ) × (o ≡ Some k)
+some_place None h = absurd (true≢false (sym h))
+some_place (Some k) h = (k, refl)
+
+pub place-found : (xs : List ℕ) (n k : ℕ) → place_of xs n ≡ Some k → (k < length xs) × (get_or xs k 0 ≡ n)
+place-found [] n k e = cc
+place-found (x ∷ xs) n k e = by (x == n) refl (place_of xs n) refl (place-found xs n) e
+  where
+    by : (b : Bool) → (x == n) ≡ b → (o : Option ℕ) → place_of xs n ≡ o → ((j : ℕ) → place_of xs n ≡ Some j → (j < length xs) × (get_or xs j 0 ≡ n)) → (if b then Some 0 else after_first o) ≡ Some k → (k < length (x ∷ xs)) × (get_or (x ∷ xs) k 0 ≡ n)
+    by true is o at rest e = let z : 0 ≡ k = cc in rw (← z) (omega arith, eqb-true x n is)
+    by false is None at rest e = cc
+    by false is (Some j) at rest e =
+        let z : suc j ≡ k = cc in
+        let p : (j < length xs) × (get_or xs j 0 ≡ n) = rest j at in
+        rw (← z) (omega (arith, p.0), p.1)
+
+-- what the table tells of a number that is in the list
+pub told_place : (list places : List ℕ) (n : ℕ) → TellsPlaces list places → IsSome (place_of list n) → (n < length places) × (place_of list n ≡ Some (get_or places n 0))
+told_place list places n told there =
+    let s = some_place (place_of list n) there in
+    let p = place-found list n s.0 s.1 in
+    let q = told s.0 p.0 in
+    (subst (λ m. m < length places) p.1 q.0, s.1 ∙ ap Some (sym (subst (λ m. get_or places m 0 ≡ s.0) p.1 q.1)))
+
+-- ---- distinct numbers
+
+pub one_number : (xs : List ℕ) (i j : ℕ) → AreDistinct xs → i < length xs → j < length xs → get_or xs i 0 ≡ get_or xs j 0 → i ≡ j
+one_number xs i j d hi hj e = one_place xs i j (get_or xs j 0) d (slice_get-get_or xs i 0 hi ∙ ap Some e) (slice_get-get_or xs j 0 hj)
+
+to_test : (xs : List ℕ) → AreDistinct xs → IsDistinct (λ x y. x == y) xs
+unfolding IsDistinct
+to_test [] d = tt
+to_test (x ∷ xs) d = (apart xs d.0, to_test xs d.1)
+  where
+    apart : (ys : List ℕ) → ¬ (In x ys) → AllByRecursion (λ y. (x == y) ≡ false) ys
+    apart [] h = tt
+    apart (y ∷ ys) h = (ne_eqb x y (λ e. h (inl e)), apart ys (λ i. h (inr i)))
+
+-- distinct numbers below a bound are at most so many
+pub length-distinct_below : (xs : List ℕ) (n : ℕ) → AreDistinct xs → ((k : ℕ) → k < length xs → get_or xs k 0 < n) → length xs ≤ n
+length-distinct_below xs n d below = length-le_from_distinct_below xs n (to_test xs d)
+    (λ q h.
+    let there = place_in xs q (present (λ x y. x == y) (record { same = eqb-true; itself = λ x. eq-eqb x x refl }) q xs h) in
+    subst (λ m. m < n) (get_or_from_slice_get xs there.0 q 0 there.1) (below there.0 (slice_get_within xs there.0 q there.1)))
+
+-- ---- filling the table
+
+pub told_more : (list places : List ℕ) (i : ℕ) → AreDistinct list → i < length list → get_or list i 0 < length places
+    → ((k : ℕ) → k < i → get_or places (get_or list k 0) 0 ≡ k)
+    → (k : ℕ) → k < i + 1 → get_or (set places (get_or list i 0) i) (get_or list k 0) 0 ≡ k
+told_more list places i d h room told =
+    below_more _ _
+    (λ k lt.
+    let ne : get_or list k 0 ≢ get_or list i 0 = λ e. absurd (let s : k ≡ i = one_number list k i d (omega arith) h e in omega (arith, s)) in
+    get_or-set_other places (get_or list i 0) (get_or list k 0) i 0 ne ∙ told k lt)
+    (get_or-set_same places (get_or list i 0) i 0 room)

@@ -1,0 +1,5 @@
+use Rattle.canonical_writer.proofs.Lines.{line_by_places}
+use Rattle.canonical_writer.proofs.line.append_line.Goals as goal
+
+pub returns-clause-ok : goal.returns-clause-ok
+returns-clause-ok g c = line_by_places _ _ _ _ _ _ _ _ c.in_ok-push_place.ensures.ok c.in_ok-push_place-2.ensures.ok c.in_ok-push_place-3.ensures.ok c.in_ok-push_graph_name.ensures.ok c.in_ok-extend_from_slice.ensures.items

@@ -1,0 +1,4 @@
+pub mod Names
+pub mod Escapes
+pub mod Pieces
+pub mod Places

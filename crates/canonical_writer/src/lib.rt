@@ -1,0 +1,14 @@
+//! Canonical N-Quads: the line of a quad under names for its blank nodes, and the text of several quads.
+#![tactic(auto)]
+
+pub use line::push_line;
+pub use list_names::ListNames;
+pub use names::{DegreeNames, Names, NumberNames};
+pub use sorted::write_sorted;
+
+mod escape;
+mod line;
+mod list_names;
+mod names;
+mod numeral;
+mod sorted;
