@@ -1,0 +1,19 @@
+use Rattle.std.proofs.Common.{◌<◌, All, Some, sym, ap, ◌∙◌, subst}
+use Rattle.rdf_terms.specs.CanonicalForm.{place_of}
+use Rattle.id_issuer.specs.IssuedList.{list_with}
+use Rattle.id_issuer.proofs.Places.{place_of-insert_key, insert_key-list_with}
+use Rattle.id_issuer.proofs.Apart.{length-distinct_below, All-insert_key}
+use Rattle.id_issuer.proofs.issuer.Issuer.issue.Goals as goal
+
+pub invariant_of-self-2 : goal.invariant_of-self-2
+invariant_of-self-2 c =
+    let below = subst (All (λ k. k < 4294967295)) (sym c.in_ok-place.ensures.keys) (All-insert_key 4294967295 c.self.inside.nodes.keys c.args.node c.requires c.self.invariant.1) in
+    (length-distinct_below 4294967295 c.insert_full.new.self.keys c.insert_full.ensures.unique below, below)
+
+pub returns-clause-place : goal.returns-clause-place
+returns-clause-place c =
+    ap (λ ks. place_of ks c.args.node) c.in_ok-place.ensures.keys ∙ place_of-insert_key c.self.inside.nodes.keys c.args.node ∙ ap Some (sym c.in_ok-place.ensures.index)
+
+pub returns-clause-list : goal.returns-clause-list
+returns-clause-list c =
+    c.in_ok-place.ensures.keys ∙ insert_key-list_with c.self.inside.nodes.keys c.args.node ∙ ap (λ v. list_with v.list c.args.node) c.self.view_is
