@@ -1,0 +1,4 @@
+pub mod Permuting
+pub mod Order
+pub mod Stepping
+pub mod Sequence
