@@ -2,7 +2,7 @@
 use Rattle.std.proofs.Common.{◌≡◌, ℕ, List, inl, inr, refl, sym, subst}
 use Rattle.rdf_terms.specs.Lists.{In, Permutes, permutes_trans}
 use Rattle.arrangements.specs.Arrangements.{GoesThrough, at_last, goes_on, Ascends, GoesThroughAll}
-use Rattle.arrangements.proofs.Permuting.{Permutes-refl, Permutes-sym}
+use Rattle.rdf_terms.proofs.Permutations.{Permutes-refl, Permutes-sym}
 use Rattle.arrangements.proofs.Order.{Below, AtMost, is_before-Below, Below-is_before, AtMost-is_at_most, Below-trans, Below-irreflexive}
 
 Below-at_most : (xs ys zs : List ℕ) → Below xs ys → AtMost ys zs → Below xs zs

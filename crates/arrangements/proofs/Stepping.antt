@@ -6,7 +6,8 @@ use mathlib.Core.List.{reverse-cons}
 use Rattle.rdf_terms.specs.Lists.{In, Permutes, permutes_cons, permutes_trans}
 use Rattle.arrangements.specs.Arrangements.{IsFirst, IsLast, IsNext}
 use Rattle.arrangements.specs.Falling.{FallsFrom, IsLastRise, IsLastAbove}
-use Rattle.arrangements.proofs.Permuting.{Permutes-sym, Permutes-rest, Permutes-reverse, traded, In-Permutes, length-Permutes}
+use Rattle.rdf_terms.proofs.Permutations.{Permutes-sym, In-Permutes, length-Permutes}
+use Rattle.arrangements.proofs.Permuting.{Permutes-rest, Permutes-reverse, traded}
 use Rattle.arrangements.proofs.Order.{Below, AtMost, AtMost-cons, three, is_before-Below, Below-is_before, is_at_most-AtMost, AtMost-is_at_most, Below-trans, Below-irreflexive}
 
 -- ---- lists that fall or climb

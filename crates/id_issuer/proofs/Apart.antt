@@ -1,21 +1,15 @@
 -- Distinct nodes: as the set says it, as contracts say it, and how many there may be.
-use Rattle.std.proofs.Common.{◌≡◌, ℕ, ◌<◌, ◌≤◌, Bool, true, false, eqb, List, [], ◌∷◌, ◌++◌, length, get_or, All, inl, inr, sym, ◌∙◌, true≢false, eq-eqb, eqb-true, if◌then◌else◌, subst}
-use Rattle.std.specs.List.{list_any, IsDistinct, AllByRecursion}
+use Rattle.std.proofs.Common.{◌≡◌, ℕ, ◌<◌, ◌≤◌, Bool, true, false, eqb, List, [], ◌∷◌, ◌++◌, length, get_or, All, refl, eq-eqb, eqb-true, if◌then◌else◌, subst}
+use Rattle.std.specs.List.{list_any, IsDistinct}
 use Rattle.std.proofs.lemmas.List.Elements.{All-append, All-cons, All-nil}
 use Rattle.std.proofs.lemmas.Map.Steps.{length-le_from_distinct_below}
 use Rattle.indexmap.specs.IndexSet.{insert_key}
 use Rattle.indexmap.proofs.CallerLemmas.{Contains-list_any}
-use Rattle.rdf_terms.specs.Lists.{In, AreDistinct}
-
-apart : (n : ℕ) (ks : List ℕ) → AllByRecursion (λ k. eqb n k ≡ false) ks → ¬ (In n ks)
-apart n [] h there = there
-apart n (k ∷ ks) h (inl e) = true≢false (sym (eq-eqb n k e) ∙ h.0)
-apart n (k ∷ ks) h (inr there) = apart n ks h.1 there
+use Rattle.rdf_terms.specs.Lists.{AreDistinct}
+use Rattle.rdf_terms.proofs.Membership.{AreDistinct-from_test}
 
 pub AreDistinct-from_IsDistinct : (ks : List ℕ) → IsDistinct eqb ks → AreDistinct ks
-unfolding IsDistinct
-AreDistinct-from_IsDistinct [] h = tt
-AreDistinct-from_IsDistinct (k ∷ ks) h = (apart k ks h.0, AreDistinct-from_IsDistinct ks h.1)
+AreDistinct-from_IsDistinct = AreDistinct-from_test eqb (record { same = eqb-true; itself = λ n. eq-eqb n n refl })
 
 -- distinct numbers below N are at most N
 pub length-distinct_below : (N : ℕ) (ks : List ℕ) → IsDistinct eqb ks → All (λ k. k < N) ks → length ks ≤ N
