@@ -1,0 +1,4 @@
+pub mod Reading
+pub mod Putting
+pub mod Decimals
+pub mod Noting

@@ -1,0 +1,7 @@
+use Rattle.rdfc_cli.proofs.Noting.{noted}
+use Rattle.rdfc_cli.proofs.Putting.{puts_line}
+use Rattle.rdfc_cli.proofs.notes.put_note.Goals as goal
+
+pub returns-in_default : goal.returns-in_default
+returns-in_default g c =
+    noted g.N.Sink.taken g.N.Sink.faults _ _ c.args.file.now c.args.status c.in_default.not-Done (puts_line _ _ _ _ c.put_line.result _ c.put_line.ensures.bytes c.put_line.ensures.cause)

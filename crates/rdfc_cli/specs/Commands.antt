@@ -1,0 +1,19 @@
+-- The grammar of the command line: a command and the file that it is for.
+use Rattle.std.specs.Prelude.{◌≡◌, ◌≢◌, List, [], ◌∷◌, codes}
+use Rattle.rdf_terms.specs.Lists.{Text}
+use Rattle.rdfc_cli.specs.declared.words.Task.{Task}
+use Rattle.rdfc_cli.specs.declared.words.Task.TheVariants.{Canon}
+
+-- the first word of a command
+abbrev pub word_of : Task → Text
+word_of Canon = codes "canon"
+
+-- a file's word is not empty and does not begin with a dash
+abbrev pub IsFileWord : Text → Type 0
+IsFileWord [] = ⊥
+IsFileWord (first ∷ more) = first ≢ 45
+
+-- the words are a command and a file
+pub record IsCommand (words : List Text) (task : Task) (file : Text) : Type 0 where
+  pub spelled : words ≡ word_of task ∷ file ∷ []
+  pub is_file : IsFileWord file

@@ -1,0 +1,5 @@
+pub mod Statuses
+pub mod Commands
+pub mod Puts
+pub mod Notes
+pub mod NoteParts

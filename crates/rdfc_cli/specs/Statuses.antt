@@ -1,0 +1,12 @@
+-- The exit status of each answer.
+use Rattle.std.specs.Prelude.{ℕ}
+use Rattle.rdfc_cli.specs.declared.status.Status.{Status}
+use Rattle.rdfc_cli.specs.declared.status.Status.TheVariants.{Done, Usage, Refused, ReadFault, WriteFault, NoMemory}
+
+abbrev pub code_of : Status → ℕ
+code_of Done = 0
+code_of Usage = 2
+code_of (Refused refusal) = 4
+code_of (ReadFault file) = 5
+code_of WriteFault = 6
+code_of NoMemory = 8

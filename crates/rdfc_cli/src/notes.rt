@@ -1,0 +1,96 @@
+ghost use Rattle.std.specs.Prelude.{map};
+ghost use Rattle.rdf_terms.specs.Lists.{joined};
+ghost use Rattle.outside.specs.Faults.{HasCause};
+ghost use Rattle.rdfc_cli.specs.Puts.{Puts};
+ghost use Rattle.rdfc_cli.specs.Notes.{status_text, note_line, IsNoted};
+ghost use Rattle.rdfc_cli.specs.NoteParts.{part_text};
+
+use crate::decimal::Decimal;
+use crate::files::FILE_LIMIT;
+use crate::status::{Cause, Refusal, Status};
+use crate::write::put_all;
+use outside::{Failed, Sink};
+
+// A part of a note.
+#[derive(Clone, Copy)]
+enum Part<'a> {
+    Text(&'a str),
+    Number(u64),
+}
+
+fn put_part<N: Sink>(notes: &mut N, part: Part<'_>) -> Result<(), Failed>
+    ensures bytes { Puts (N.taken notes.old) (N.taken notes.new) result (part_text part.entry) }
+    ensures cause { HasCause (N.faults notes.old) (N.faults notes.new) result }
+{
+    match part {
+        Part::Text(text) => put_all(notes, text.as_bytes()),
+        Part::Number(number) => put_all(notes, Decimal::of(number).as_bytes()),
+    }
+}
+
+fn put_parts<N: Sink>(notes: &mut N, parts: &[Part<'_>]) -> Result<(), Failed>
+    ensures bytes { Puts (N.taken notes.old) (N.taken notes.new) result (joined (map part_text parts.now)) }
+    ensures cause { HasCause (N.faults notes.old) (N.faults notes.new) result }
+{
+    for part in parts {
+        put_part(notes, *part)?;
+    }
+    Ok(())
+}
+
+fn put_status<N: Sink>(notes: &mut N, status: Status, file: &str) -> Result<(), Failed>
+    ensures bytes { Puts (N.taken notes.old) (N.taken notes.new) result (status_text file.now status) }
+    ensures cause { HasCause (N.faults notes.old) (N.faults notes.new) result }
+{
+    match status {
+        Status::Done => Ok(()),
+        Status::Usage => put_all(notes, b"the words are not a command"),
+        Status::Refused(Refusal { cause, .. }) => match cause {
+            Cause::TooLong => put_parts(
+                notes,
+                &[
+                    Part::Text(file),
+                    Part::Text(": longer than "),
+                    Part::Number(FILE_LIMIT as u64),
+                    Part::Text(" bytes"),
+                ],
+            ),
+            Cause::NotYet { line } => put_parts(
+                notes,
+                &[
+                    Part::Text(file),
+                    Part::Text(":"),
+                    Part::Number(line),
+                    Part::Text(": not read yet"),
+                ],
+            ),
+        },
+        Status::ReadFault { .. } => {
+            put_parts(notes, &[Part::Text(file), Part::Text(": read failed")])
+        }
+        Status::WriteFault => put_all(notes, b"write failed"),
+        Status::NoMemory => put_all(notes, b"out of memory"),
+    }
+}
+
+fn put_line<N: Sink>(notes: &mut N, status: Status, file: &str) -> Result<(), Failed>
+    ensures bytes { Puts (N.taken notes.old) (N.taken notes.new) result (note_line file.now status) }
+    ensures cause { HasCause (N.faults notes.old) (N.faults notes.new) result }
+{
+    put_all(notes, b"rdfc: ")?;
+    put_status(notes, status, file)?;
+    put_all(notes, b"\n")
+}
+
+/// Puts the line that tells of a status, in parts, and none for `Done`. The first call that fails ends the note.
+/// `file` is the word of the file that the status speaks of. Takes no memory.
+pub fn put_note<N: Sink>(notes: &mut N, status: Status, file: &str)
+    ensures { IsNoted N.taken N.faults notes.old notes.new file.now status }
+{
+    match status {
+        Status::Done => {}
+        _ => {
+            let _ = put_line(notes, status, file);
+        }
+    }
+}
