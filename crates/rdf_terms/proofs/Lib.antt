@@ -8,3 +8,8 @@ pub mod Permutations
 pub mod TextOrder
 pub mod SortedTexts
 pub mod Numerals
+pub mod Ranks
+pub mod Finishing
+pub mod Marking
+pub mod Keeping
+pub mod Leaving

@@ -1,12 +1,12 @@
 -- What a document holds: its terms by number, its quads by the numbers of their terms, and what it calls its nodes.
-use Rattle.std.specs.Prelude.{◌≡◌, ℕ, ◌<◌, ◌≤◌, ◌+◌, ◌*◌, ◌⊎◌, Bool, false, List, [], ◌∷◌, ◌++◌, map, filter, length, Option, Some, None, IfSome, slice_get, slice_index, slice_index_or, All}
+use Rattle.std.specs.Prelude.{if◌then◌else◌, ◌≡◌, ℕ, ◌<◌, ◌≤◌, ◌+◌, ◌*◌, ◌⊎◌, Bool, true, false, List, [], ◌∷◌, ◌++◌, map, filter, length, Option, Some, None, IfSome, slice_get, slice_index, slice_index_or, slice_set, All}
 use Rattle.std.specs.List.{list_any}
 use Rattle.rdf_terms.specs.Lists.{In, AreDistinct, numbers_below}
 use Rattle.rdf_terms.specs.Terms.{Statement, IsValidStatement}
 use Rattle.rdf_terms.specs.Dataset.{Dataset, IsUsed, mentions}
 use Rattle.rdf_terms.specs.Isomorphism.{relabel_statement}
 use Rattle.rdf_terms.specs.declared.term.Term.{Term}
-use Rattle.rdf_terms.specs.declared.term.Term.TheVariants.{Blank}
+use Rattle.rdf_terms.specs.declared.term.Term.TheVariants.{Iri, Blank, Literal}
 use Rattle.rdf_terms.specs.declared.term.Quad.{Quad}
 use Rattle.rdf_terms.specs.declared.term.Label.{Label}
 use Rattle.rdf_terms.specs.declared.term.Label.TheVariants.{Anonymous}
@@ -107,6 +107,18 @@ new_number sts n = length (used_below sts n)
 -- whether this place is marked
 abbrev pub mark_in : List Bool → ℕ → Bool
 mark_in marks n = slice_index_or marks n false
+
+-- the marks with the node's, where the term is a node
+abbrev pub with_mark : List Bool → Term → List Bool
+with_mark marks (Iri t) = marks
+with_mark marks (Blank n) = slice_set marks n true
+with_mark marks (Literal l) = marks
+
+-- the labels whose marks are set, in their order
+abbrev pub marked_of : List Bool → List Label → List Label
+marked_of [] labels = []
+marked_of (b ∷ bs) [] = []
+marked_of (b ∷ bs) (l ∷ ls) = if b then l ∷ marked_of bs ls else marked_of bs ls
 
 -- the number in this place
 abbrev pub number_in : List ℕ → ℕ → ℕ

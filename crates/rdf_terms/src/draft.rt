@@ -2,8 +2,9 @@ ghost use Rattle.std.specs.Prelude.{◌≡◌, ℕ, ◌<◌, ◌≤◌, ◌+◌,
 ghost use Rattle.rdf_terms.specs.Lists.{In, AreDistinct};
 ghost use Rattle.rdf_terms.specs.Terms.{IsValidStatement};
 ghost use Rattle.rdf_terms.specs.Dataset.{IsUsed};
-ghost use Rattle.rdf_terms.specs.Document.{statements, Extends, Adds, Interns, Numbers};
+ghost use Rattle.rdf_terms.specs.Document.{statements, Extends, Adds, Interns, Numbers, Finishes};
 
+use crate::finish::{are_all_used, new_numbers, used_labels, used_nodes};
 use crate::{Label, NoMemory, Parsed, Quad, Term, TermTable};
 use indexmap::IndexSet;
 use std::alloc::Global;
@@ -12,6 +13,7 @@ use std::marker::Model;
 /// A document that is being read, in which a node may still stand in no quad.
 #[derive(Drop)]
 pub struct Draft {
+    alloc: Global,
     terms: TermTable,
     quads: IndexSet<Quad>,
     labels: IndexSet<Label>,
@@ -56,6 +58,7 @@ impl Draft {
         ensures { result ≡ record { terms = []; quads = []; labels = [] } }
     {
         Draft {
+            alloc,
             terms: TermTable::new(alloc),
             quads: IndexSet::new(alloc),
             labels: IndexSet::new(alloc),
@@ -102,16 +105,25 @@ impl Draft {
         self.quads.len() as u64
     }
 
-    /// The document that was read.
+    /// The document that was read. A node that stands in no quad is dropped, and the others are
+    /// numbered anew, in the order in which `node` gave their numbers.
     pub fn finish(self) -> Result<Parsed, NoMemory>
-        requires { (n : ℕ) → n < length self.labels → IsUsed (statements self) n }
-        ensures { IfOk result (λ parsed. parsed ≡ self) }
+        ensures finishes { IfOk result (Finishes self) }
+        ensures whole { ((n : ℕ) → n < length self.labels → IsUsed (statements self) n) → IfOk result (λ parsed. parsed ≡ self) }
     {
         let Draft {
+            alloc,
             terms,
             quads,
             labels,
         } = self;
+        let used = used_nodes(alloc, &terms, labels.len())?;
+        if are_all_used(&used) {
+            return Ok(Parsed::new(terms, quads, labels));
+        }
+        let numbers = new_numbers(alloc, &used)?;
+        let terms = terms.renumbered(alloc, &numbers)?;
+        let labels = used_labels(alloc, labels, &used)?;
         Ok(Parsed::new(terms, quads, labels))
     }
 }

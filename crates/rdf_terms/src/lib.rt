@@ -11,6 +11,7 @@ pub use term_text::TermText;
 
 mod bytes;
 mod draft;
+mod finish;
 mod memory;
 mod parsed;
 mod table;

@@ -87,6 +87,12 @@ impl TermTable {
         Some(index as u32)
     }
 
+    pub(crate) fn as_slice(&self) -> &[Term]
+        ensures { result.now ≡ self.now }
+    {
+        self.terms.as_slice()
+    }
+
     // The same terms in the same order, with each blank node under its new number.
     pub(crate) fn renumbered(self, alloc: Global, numbers: &[u32]) -> Result<Self, NoMemory>
         requires known { (n : ℕ) → In (Blank n) self → n < length numbers.now }
