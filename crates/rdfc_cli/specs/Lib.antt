@@ -3,3 +3,4 @@ pub mod Commands
 pub mod Puts
 pub mod Notes
 pub mod NoteParts
+pub mod Answers

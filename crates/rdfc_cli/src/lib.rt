@@ -3,6 +3,7 @@
 
 pub use files::{FILE_LIMIT, LoadFault, load};
 pub use notes::put_note;
+pub use running::run;
 pub use status::{Cause, Refusal, Status};
 pub use words::{Command, Task, read_words};
 pub use write::put_all;
@@ -10,6 +11,7 @@ pub use write::put_all;
 mod decimal;
 mod files;
 mod notes;
+mod running;
 mod status;
 mod words;
 mod write;
