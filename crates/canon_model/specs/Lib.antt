@@ -1,0 +1,3 @@
+pub mod HexHash
+pub mod Profile
+pub mod FirstDegree
