@@ -1,0 +1,15 @@
+mod Order
+mod Permutations
+mod Sorting
+mod Maps
+mod Relabel
+mod RelabelGroups
+mod Skip
+mod Membership
+mod Equivariance
+mod Issuers
+mod Exchange
+mod Symmetries
+mod Arrangements
+mod Neighbours
+mod Coverage

@@ -1,3 +1,14 @@
 pub mod HexHash
 pub mod Profile
 pub mod FirstDegree
+pub mod Issuer
+pub mod RelatedHash
+pub mod Groups
+pub mod Walk
+pub mod Outcome
+pub mod Allowed
+pub mod Arrangements
+pub mod CountedRun
+pub mod Coverage
+pub mod Ties
+pub mod Laws
