@@ -13,3 +13,5 @@ mod Symmetries
 mod Arrangements
 mod Neighbours
 mod Coverage
+mod CountedGrows
+mod Uniqueness
