@@ -15,3 +15,8 @@ mod Neighbours
 mod Coverage
 mod CountedGrows
 mod Uniqueness
+mod CountedPaths
+mod Pigeonhole
+mod Totality
+mod OutcomesGrow
+mod Depth

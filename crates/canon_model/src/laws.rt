@@ -1,6 +1,6 @@
 //! What the definitions of the hashing model imply. Each law is a contract, and the functions do nothing.
 
-ghost use Rattle.canon_model.specs.Laws.{Coverage, Equivariance, SkipsAreHarmless, UniqueUpToSymmetry};
+ghost use Rattle.canon_model.specs.Laws.{CountedCallIsOutcome, Coverage, DepthDoesNotMatter, Equivariance, SkipsAreHarmless, TotalityOfCalls, UniqueUpToSymmetry};
 
 /// The outcomes of Hash N-Degree Quads do not depend on how blank nodes are numbered, nor on the
 /// order of the quads.
@@ -13,9 +13,25 @@ pub fn coverage()
     ensures { Coverage }
 {}
 
+/// Every valid call has an outcome.
+pub fn calls_have_outcomes()
+    ensures { TotalityOfCalls }
+{}
+
 /// A permutation that is skipped would not have been chosen.
 pub fn skips_are_harmless()
     ensures { SkipsAreHarmless }
+{}
+
+/// What the counted run of a call gives is one of the call's outcomes.
+pub fn counted_call_is_outcome()
+    ensures { CountedCallIsOutcome }
+{}
+
+/// The bound on how deep calls stand in one another changes nothing, where it leaves room for
+/// every node.
+pub fn depth_does_not_matter()
+    ensures { DepthDoesNotMatter }
 {}
 
 /// Where each tie of the counted run of a call is joined, the call has one outcome but for

@@ -1,0 +1,35 @@
+-- The issuer that any outcome returns begins with the one passed in, and has issued for each node once.
+use Rattle.std.proofs.Common.{List, [], subst, suc, sym, zero, ℕ, ◌∷◌}
+use Rattle.rdf_terms.specs.Dataset.{Dataset}
+use Rattle.rdf_terms.specs.Lists.{Text}
+use Rattle.canon_model.specs.Groups.{groups}
+use Rattle.canon_model.specs.Outcome.{ChosenPath, DataToHash, NDegreeWithin}
+use Rattle.canon_model.specs.Profile.{Profile}
+use Rattle.canon_model.specs.Walk.{CallRelation, PermutationPath, RecursionResults, issuer_copy_after, recursion_list}
+use Rattle.canon_model.proofs.Issuers.{AreOnce, Grows, begins_refl, grows_trans, issuer_copy_after-grows}
+use Rattle.canon_model.proofs.Order.{R}
+
+module _ (c : List ℕ) where
+  abbrev pub AllGrow : CallRelation → Type 0
+  AllGrow R = (m : ℕ) (i : List ℕ) (h : Text) (j : List ℕ) → AreOnce i → R m i h j → Grows i j
+
+  module _ (R : CallRelation) (grows : AllGrow R) where
+    recursion_results-grows : (ms i : List ℕ) (π : Text) (j : List ℕ) → AreOnce i → RecursionResults R c ms i π j → Grows i j
+    recursion_results-grows [] i π j d w = subst (Grows i) (sym w.1) (begins_refl i, d)
+    recursion_results-grows (m ∷ ms) i π j d w = let g = grows m i w.hash w.issuer d w.result in grows_trans i w.issuer j g (recursion_results-grows ms w.issuer w.rest j g.1 w.following)
+
+    pub permutation_path-grows : (i p : List ℕ) (π : Text) (j : List ℕ) → AreOnce i → PermutationPath R c i p π j → Grows i j
+    permutation_path-grows i p π j d w =
+        let g = issuer_copy_after-grows c i p d in
+        grows_trans i (issuer_copy_after c i p) j g (recursion_results-grows (recursion_list c i p) (issuer_copy_after c i p) w.results j g.1 w.calls)
+
+    pub chosen_path-grows : (nodes i : List ℕ) (π : Text) (j : List ℕ) → AreOnce i → ChosenPath R c nodes i π j → Grows i j
+    chosen_path-grows nodes i π j d w = subst (Grows i) (sym w.issuer_is) (permutation_path-grows i w.chosen (w.paths.path w.chosen) (w.paths.issuer w.chosen) d (w.paths.walks w.chosen w.is_least.permutes))
+
+    data_to_hash-grows : (nodes : Text → List ℕ) (hs : List Text) (i : List ℕ) (s : Text) (j : List ℕ) → AreOnce i → DataToHash R c nodes hs i s j → Grows i j
+    data_to_hash-grows nodes [] i s j d w = subst (Grows i) (sym w.1) (begins_refl i, d)
+    data_to_hash-grows nodes (h ∷ hs) i s j d w = let g = chosen_path-grows (nodes h) i w.path w.issuer d w.chosen_path in grows_trans i w.issuer j g (data_to_hash-grows nodes hs w.issuer w.rest j g.1 w.following)
+
+  pub n_degree_within-grows : (ρ : Profile) (D : Dataset) (k : ℕ) → AllGrow (NDegreeWithin k ρ D c)
+  n_degree_within-grows ρ D zero m i h j d w = absurd w
+  n_degree_within-grows ρ D (suc k) m i h j d w = data_to_hash-grows (NDegreeWithin k ρ D c) (n_degree_within-grows ρ D k) (groups ρ D c i m).nodes (groups ρ D c i m).hashes i w.text j d w.data_to_hash
