@@ -134,7 +134,7 @@ carries_back σ τ e D E car = record {
 
 -- ---- the law
 
-distinct_map : {A B : Type 0} (f : A → B) (g : B → A) → ((x : A) → g (f x) ≡ x) → (xs : List A) → AreDistinct xs → AreDistinct (map f xs)
+pub distinct_map : {A B : Type 0} (f : A → B) (g : B → A) → ((x : A) → g (f x) ≡ x) → (xs : List A) → AreDistinct xs → AreDistinct (map f xs)
 distinct_map f g e [] d = tt
 distinct_map f g e (x ∷ xs) d = (λ h. let r = in_map_from f (f x) xs h in d.0 (subst (λ w. In w xs) (sym (e r.0) ∙ ap g (sym r.2) ∙ e x) r.1), distinct_map f g e xs d.1)
 

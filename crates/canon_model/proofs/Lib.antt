@@ -20,3 +20,6 @@ mod Pigeonhole
 mod Totality
 mod OutcomesGrow
 mod Depth
+mod LocalSymmetry
+mod ExchangeSymmetry
+mod Gluing

@@ -166,7 +166,7 @@ module _ (ρ : Profile) (D : Dataset) (c : List ℕ) (nodes : MentionsNodes D) w
 
 -- ---- the laws
 
-all_in : {A : Type 0} (P : A → Type 0) (xs : List A) (x : A) → In x xs → All P xs → P x
+pub all_in : {A : Type 0} (P : A → Type 0) (xs : List A) (x : A) → In x xs → All P xs → P x
 all_in P [] x h a = absurd h
 all_in P (y ∷ xs) x (inl e) a = subst P (sym e) (a 0 y (omega arith))
 all_in P (y ∷ xs) x (inr h) a = all_in P xs x h (λ k d l. a (suc k) d (omega arith))

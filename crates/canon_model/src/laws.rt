@@ -1,6 +1,6 @@
 //! What the definitions of the hashing model imply. Each law is a contract, and the functions do nothing.
 
-ghost use Rattle.canon_model.specs.Laws.{CountedCallIsOutcome, Coverage, DepthDoesNotMatter, Equivariance, SkipsAreHarmless, TotalityOfCalls, UniqueUpToSymmetry};
+ghost use Rattle.canon_model.specs.Laws.{CountedCallIsOutcome, Coverage, DepthDoesNotMatter, Equivariance, Gluing, SkipsAreHarmless, TotalityOfCalls, UniqueUpToSymmetry};
 
 /// The outcomes of Hash N-Degree Quads do not depend on how blank nodes are numbered, nor on the
 /// order of the quads.
@@ -38,4 +38,10 @@ pub fn depth_does_not_matter()
 /// symmetries.
 pub fn unique_up_to_symmetry()
     ensures { UniqueUpToSymmetry }
+{}
+
+/// A symmetry on a part of the dataset, its inverse on the image of the part and nothing elsewhere
+/// make a symmetry.
+pub fn gluing()
+    ensures { Gluing }
 {}
