@@ -80,14 +80,14 @@ module _ (D : Dataset) (quads : AreQuads D) (c : List ℕ) where
   IsClosed j = (x : ℕ) → is_issued x j ≡ true → is_issued x c ≡ false → (y : ℕ) → ShareQuad D x y → is_issued y c ≡ false → is_issued y j ≡ true
 
   -- one list is the other under a symmetry that fixes what stood before, and moves nothing else
-  pub record Sim (cur l m : List ℕ) : Type 0 where
+  pub record AreAlike (cur l m : List ℕ) : Type 0 where
     pub s : Symmetry D
     pub fixes : Keeps s.relabelling.to cur
     pub out : (x : ℕ) → is_issued x l ≡ false → s.relabelling.to x ≡ x
     pub is : map s.relabelling.to l ≡ m
     pub same : (x : ℕ) → is_issued x l ≡ is_issued x m
 
-  pub record Near (l m : List ℕ) (x : ℕ) : Type 0 where
+  pub record AgreesNear (l m : List ℕ) (x : ℕ) : Type 0 where
     pub s : Symmetry D
     pub canon : Keeps s.relabelling.to c
     pub j : List ℕ
@@ -96,10 +96,10 @@ module _ (D : Dataset) (quads : AreQuads D) (c : List ℕ) where
     pub closed : IsClosed j
     pub agrees : (y : ℕ) → is_issued y j ≡ true → by_places l m y ≡ s.relabelling.to y
 
-  pub glue : (cur a b : List ℕ) → ((x : ℕ) → is_issued x c ≡ true → is_issued x cur ≡ true) → AreOnce (cur ++ a) → AreOnce (cur ++ b) → length a ≡ length b
+  pub alike_by_places : (cur a b : List ℕ) → ((x : ℕ) → is_issued x c ≡ true → is_issued x cur ≡ true) → AreOnce (cur ++ a) → AreOnce (cur ++ b) → length a ≡ length b
       → ((x : ℕ) → is_issued x (cur ++ a) ≡ is_issued x (cur ++ b)) → ((x : ℕ) → is_issued x (cur ++ b) ≡ true → x < D.nodes)
-      → ((x : ℕ) → is_issued x a ≡ true → Near (cur ++ a) (cur ++ b) x) → Sim cur (cur ++ a) (cur ++ b)
-  glue cur a b sub da db len same low near = record {
+      → ((x : ℕ) → is_issued x a ≡ true → AgreesNear (cur ++ a) (cur ++ b) x) → AreAlike cur (cur ++ a) (cur ++ b)
+  alike_by_places cur a b sub da db len same low near = record {
     s = record { relabelling = moves; keeps = carries_locally D quads moves agrees };
     fixes = λ x h. fixed x h;
     out = λ x h. by_places-outside l m x h;
@@ -143,7 +143,7 @@ module _ (D : Dataset) (quads : AreQuads D) (c : List ℕ) where
           by : ((x : ℕ) × (mentions x q ≡ true) × (is_issued x a ≡ true)) ⊎ ((x : ℕ) → mentions x q ≡ true → is_issued x a ≡ false) → (τ : Symmetry D) × ((x : ℕ) → mentions x q ≡ true → by_places (cur ++ a) (cur ++ b) x ≡ τ.relabelling.to x)
           by (inl r) = (n.s, λ y g. on y g (is_issued y c) refl)
             where
-              n : Near (cur ++ a) (cur ++ b) r.0
+              n : AgreesNear (cur ++ a) (cur ++ b) r.0
               n = near r.0 r.2
 
               on : (y : ℕ) → mentions y q ≡ true → (t : Bool) → is_issued y c ≡ t → by_places (cur ++ a) (cur ++ b) y ≡ n.s.relabelling.to y

@@ -23,3 +23,6 @@ mod Depth
 mod LocalSymmetry
 mod ExchangeSymmetry
 mod Gluing
+mod IssueEach
+mod Components
+mod ResultOrders
