@@ -150,7 +150,7 @@ valid_call-relabel D E σ τ back low c n i v = record {
   listed = in_map σ n i v.listed;
 }
 
-outcome-relabel : (ρ : Profile) (D E : Dataset) (σ : Relabelling D.nodes) → Carries σ.to D E → (c : List ℕ) (n : ℕ) (i : List ℕ) (h : Text) (j : List ℕ)
+pub outcome-relabel : (ρ : Profile) (D E : Dataset) (σ : Relabelling D.nodes) → Carries σ.to D E → (c : List ℕ) (n : ℕ) (i : List ℕ) (h : Text) (j : List ℕ)
     → HashNDegreeQuads ρ D c n i h j → HashNDegreeQuads ρ E (map σ.to c) (σ.to n) (map σ.to i) h (map σ.to j)
 outcome-relabel ρ D E σ car c n i h j w = record {
   valid = valid_call-relabel D E σ.to σ.from σ.from-to (λ x l. subst (λ k. σ.to x < k) (sym car.nodes) (σ.to_node x l)) c n i w.valid;

@@ -70,6 +70,9 @@ is_issued-begins x i j e h = ap (is_issued x) e.is ∙ is_issued-append x i e.ta
 pub begins_refl : (i : List ℕ) → BeginsWith i i
 begins_refl i = record { tail = []; is = sym (append-nil i) }
 
+pub begins_nothing : (j : List ℕ) → BeginsWith [] j
+begins_nothing j = record { tail = j; is = refl }
+
 pub begins_trans : (i j k : List ℕ) → BeginsWith i j → BeginsWith j k → BeginsWith i k
 begins_trans i j k e f = record { tail = e.tail ++ f.tail; is = f.is ∙ ap (λ w. w ++ f.tail) e.is ∙ append_assoc i e.tail f.tail }
 

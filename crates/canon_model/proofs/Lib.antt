@@ -26,3 +26,13 @@ mod Gluing
 mod IssueEach
 mod Components
 mod ResultOrders
+mod SortedResults
+mod LinkedResults
+mod StartNodes
+mod IssuedLists
+mod CanonicalLists
+mod CountedAllowed
+mod OutcomeComponents
+mod HashStep
+mod RelabelRun
+mod OneOutput

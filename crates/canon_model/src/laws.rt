@@ -1,6 +1,6 @@
 //! What the definitions of the hashing model imply. Each law is a contract, and the functions do nothing.
 
-ghost use Rattle.canon_model.specs.Laws.{CountedCallIsOutcome, Coverage, DepthDoesNotMatter, Equivariance, Gluing, SkipsAreHarmless, TotalityOfCalls, UniqueUpToSymmetry};
+ghost use Rattle.canon_model.specs.Laws.{CanonicalListsAreComplete, CountedCallIsOutcome, CountedRunIsAllowed, Coverage, DepthDoesNotMatter, Equivariance, Gluing, OneOutput, SkipsAreHarmless, TotalityOfCalls, TotalityOfDatasets, UniqueUpToSymmetry};
 
 /// The outcomes of Hash N-Degree Quads do not depend on how blank nodes are numbered, nor on the
 /// order of the quads.
@@ -18,6 +18,16 @@ pub fn calls_have_outcomes()
     ensures { TotalityOfCalls }
 {}
 
+/// Every dataset has an output that is allowed.
+pub fn datasets_have_outputs()
+    ensures { TotalityOfDatasets }
+{}
+
+/// A list that is allowed holds every blank node once.
+pub fn canonical_lists_are_complete()
+    ensures { CanonicalListsAreComplete }
+{}
+
 /// A permutation that is skipped would not have been chosen.
 pub fn skips_are_harmless()
     ensures { SkipsAreHarmless }
@@ -26,6 +36,11 @@ pub fn skips_are_harmless()
 /// What the counted run of a call gives is one of the call's outcomes.
 pub fn counted_call_is_outcome()
     ensures { CountedCallIsOutcome }
+{}
+
+/// The list that the counted run of a dataset ends with is allowed.
+pub fn counted_run_is_allowed()
+    ensures { CountedRunIsAllowed }
 {}
 
 /// The bound on how deep calls stand in one another changes nothing, where it leaves room for
@@ -44,4 +59,10 @@ pub fn unique_up_to_symmetry()
 /// make a symmetry.
 pub fn gluing()
     ensures { Gluing }
+{}
+
+/// Where each tie of the counted run is joined, every isomorphic dataset has one output, that of
+/// the counted run.
+pub fn one_output()
+    ensures { OneOutput }
 {}
