@@ -10,7 +10,7 @@ use Rattle.canon_model.specs.Walk.{CallRelation, RecursionResults, issuer_copy_a
 use Rattle.canon_model.proofs.Arrangements.{in_arrangements, in_arrangements_from}
 use Rattle.canon_model.proofs.CountedGrows.{IsLater, is_skipped-later, skips-later}
 use Rattle.canon_model.proofs.Membership.{in_append_cases}
-use Rattle.canon_model.proofs.Order.{R, is_before_asym, is_before_self, not_before_lesser}
+use Rattle.canon_model.proofs.Order.{is_before_asym, is_before_self, not_before_lesser}
 
 -- the walk without a skip
 abbrev pub full_path : CountedCall → List ℕ → List ℕ → List ℕ → Text

@@ -291,5 +291,8 @@ module _ (D : Dataset) (c : List ℕ) where
               one (inr b) = absurd b
           by false a = o.step.closed x e a y s f
 
+pub hash_n_degree_quads-covers : (D : Dataset) (c : List ℕ) (ρ : Profile) → AllCover D c (HashNDegreeQuads ρ D c)
+hash_n_degree_quads-covers D c ρ m i h j hm v = n_degree_within-covers D c ρ (suc D.nodes) m i h j hm v.outcome
+
 pub coverage : Coverage
-coverage ρ D c i p π j w = permutation_path-coverage D c (HashNDegreeQuads ρ D c) (λ m i h j hm v. n_degree_within-covers D c ρ (suc D.nodes) m i h j hm v.outcome) i p π j w
+coverage ρ D c i p π j w = permutation_path-coverage D c (HashNDegreeQuads ρ D c) (hash_n_degree_quads-covers D c ρ) i p π j w

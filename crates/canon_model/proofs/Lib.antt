@@ -36,3 +36,6 @@ mod OutcomeComponents
 mod HashStep
 mod RelabelRun
 mod OneOutput
+mod CallTies
+mod RunTies
+mod StrictlyAscending

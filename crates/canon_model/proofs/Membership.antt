@@ -11,7 +11,6 @@ pub in_append_right : {A : Type 0} (x : A) (xs ys : List A) → In x ys → In x
 in_append_right x [] ys h = h
 in_append_right x (y ∷ xs) ys h = inr (in_append_right x xs ys h)
 
-
 pub in_permutes : {A : Type 0} {xs ys : List A} (x : A) → Permutes xs ys → In x xs → In x ys
 in_permutes x permutes_nil h = h
 in_permutes x (permutes_cons p) (inl e) = inl e

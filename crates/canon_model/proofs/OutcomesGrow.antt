@@ -1,5 +1,5 @@
 -- The issuer that any outcome returns begins with the one passed in, and has issued for each node once.
-use Rattle.std.proofs.Common.{List, [], subst, suc, sym, zero, ℕ, ◌∷◌}
+use Rattle.std.proofs.Common.{List, [], ap, append-nil, append_assoc, refl, subst, suc, sym, zero, ℕ, ◌++◌, ◌∙◌, ◌∷◌}
 use Rattle.rdf_terms.specs.Dataset.{Dataset}
 use Rattle.rdf_terms.specs.Lists.{Text}
 use Rattle.canon_model.specs.Groups.{groups}
@@ -33,3 +33,22 @@ module _ (c : List ℕ) where
   pub n_degree_within-grows : (ρ : Profile) (D : Dataset) (k : ℕ) → AllGrow (NDegreeWithin k ρ D c)
   n_degree_within-grows ρ D zero m i h j d w = absurd w
   n_degree_within-grows ρ D (suc k) m i h j d w = data_to_hash-grows (NDegreeWithin k ρ D c) (n_degree_within-grows ρ D k) (groups ρ D c i m).nodes (groups ρ D c i m).hashes i w.text j d w.data_to_hash
+
+-- one more group
+pub data_to_hash-push : (R : CallRelation) (c : List ℕ) (nodes : Text → List ℕ) (before : List Text) (h : Text) (i : List ℕ) (s : Text) (k : List ℕ) (π : Text) (j : List ℕ) → DataToHash R c nodes before i s k → ChosenPath R c (nodes h) k π j → DataToHash R c nodes (before ++ h ∷ []) i (s ++ (h ++ π)) j
+data_to_hash-push R c nodes [] h i s k π j w f = record {
+  path = π;
+  issuer = j;
+  rest = [];
+  chosen_path = subst (λ v. ChosenPath R c (nodes h) v π j) w.1 f;
+  following = (refl, refl);
+  text_is = ap (λ v. v ++ (h ++ π)) w.0 ∙ sym (append-nil (h ++ π));
+}
+data_to_hash-push R c nodes (g ∷ before) h i s k π j w f = record {
+  path = w.path;
+  issuer = w.issuer;
+  rest = w.rest ++ (h ++ π);
+  chosen_path = w.chosen_path;
+  following = data_to_hash-push R c nodes before h w.issuer w.rest k π j w.following f;
+  text_is = ap (λ v. v ++ (h ++ π)) w.text_is ∙ append_assoc (g ++ w.path) w.rest (h ++ π);
+}

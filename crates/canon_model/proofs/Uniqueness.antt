@@ -20,7 +20,7 @@ use Rattle.canon_model.proofs.Equivariance.{chosen_path-relabel, map_back, map_f
 use Rattle.canon_model.proofs.Issuers.{AllIssued, AreOnce, Grows, Keeps, are_once_from_distinct, begins_refl, is_issued-begins, is_issued_from_in, issuer_copy_after-grows, map_fixed, recursion_list-issued}
 use Rattle.canon_model.proofs.Maps.{map-map}
 use Rattle.canon_model.proofs.Membership.{in_append_cases, in_append_left, in_append_right, in_map}
-use Rattle.canon_model.proofs.Order.{R, equal_from_neither, is_before_asym, is_before_self, not_before_lesser}
+use Rattle.canon_model.proofs.Order.{equal_from_neither, is_before_asym, is_before_self, not_before_lesser}
 use Rattle.canon_model.proofs.Relabel.{label-relabel, related_entries-relabel}
 use Rattle.canon_model.proofs.RelabelGroups.{blank_node_list-relabel}
 use Rattle.canon_model.proofs.Symmetries.{Linked, composed_fixes, composed_symmetry, identity_symmetry, inverse_fixes, inverse_symmetry, joined-linked, linked_refl, linked_trans, linked_weaker}

@@ -1,5 +1,5 @@
 -- What the Canonicalization Algorithm allows for a dataset (RDF Dataset Canonicalization, section 4.4).
-use Rattle.std.specs.Prelude.{◌≡◌, ℕ, zero, suc, Bool, false, not, if◌then◌else◌, List, [], ◌∷◌, ◌++◌, map, filter, flat_map}
+use Rattle.std.specs.Prelude.{◌≡◌, ℕ, zero, suc, Bool, false, not, List, [], ◌∷◌, ◌++◌, map, filter, flat_map}
 use Rattle.std.specs.Str.{bytes_eq}
 use Rattle.rdf_terms.specs.Lists.{Text, In, Permutes, sorted, is_before}
 use Rattle.rdf_terms.specs.Dataset.{Dataset}

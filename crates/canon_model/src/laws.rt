@@ -1,6 +1,6 @@
 //! What the definitions of the hashing model imply. Each law is a contract, and the functions do nothing.
 
-ghost use Rattle.canon_model.specs.Laws.{CanonicalListsAreComplete, CountedCallIsOutcome, CountedRunIsAllowed, Coverage, DepthDoesNotMatter, Equivariance, Gluing, OneOutput, SkipsAreHarmless, TotalityOfCalls, TotalityOfDatasets, UniqueUpToSymmetry};
+ghost use Rattle.canon_model.specs.Laws.{ArrangementsAreAll, CanonicalListsAreComplete, CountedCallIsOutcome, CountedRunIsAllowed, Coverage, DepthDoesNotMatter, Equivariance, Gluing, OneOutput, SkipsAreHarmless, TiesOfCallAreTied, TiesOfRunAreTied, TotalityOfCalls, TotalityOfDatasets, UniqueUpToSymmetry};
 
 /// The outcomes of Hash N-Degree Quads do not depend on how blank nodes are numbered, nor on the
 /// order of the quads.
@@ -41,6 +41,21 @@ pub fn counted_call_is_outcome()
 /// The list that the counted run of a dataset ends with is allowed.
 pub fn counted_run_is_allowed()
     ensures { CountedRunIsAllowed }
+{}
+
+/// Each tie that a call logs is of two outcomes that are tied, and its exchange may be checked.
+pub fn ties_of_call_are_tied()
+    ensures { TiesOfCallAreTied }
+{}
+
+/// Each tie that a run logs is of two outcomes that are tied, and its exchange may be checked.
+pub fn ties_of_run_are_tied()
+    ensures { TiesOfRunAreTied }
+{}
+
+/// The permutations that the counted run tries are all there are, each once and in order.
+pub fn arrangements_are_all()
+    ensures { ArrangementsAreAll }
 {}
 
 /// The bound on how deep calls stand in one another changes nothing, where it leaves room for

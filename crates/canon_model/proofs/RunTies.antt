@@ -1,0 +1,111 @@
+-- Each tie that the counted run of a dataset logs is tied, and its exchange may be checked.
+use Rattle.std.proofs.Common.{Bool, List, [], ap, cond, false, inl, inr, map, refl, subst, sym, true, true≢false, ℕ, ◌++◌, ◌↔◌, ◌∙◌, ◌∷◌, ◌≡◌, ◌⊎◌}
+use Rattle.std.specs.Cmp.Lexicographic.{bytes_decides}
+use Rattle.std.specs.Str.{bytes_eq}
+use Rattle.rdf_terms.specs.Dataset.{Dataset, IsValid}
+use Rattle.rdf_terms.specs.Lists.{In, Text}
+use Rattle.canon_model.specs.Allowed.{HashPathResult, first_degree_hashes, issue_results, issued_for_unique_hashes, unissued_nodes}
+use Rattle.canon_model.specs.CountedRun.{counted_hashes, counted_results, counted_start, result_of, ties_of_results, ties_with, trace_of_starts}
+use Rattle.canon_model.specs.Issuer.{is_issued}
+use Rattle.canon_model.specs.Laws.{TiesOfRunAreTied}
+use Rattle.canon_model.specs.Outcome.{HashNDegreeQuads}
+use Rattle.canon_model.specs.Profile.{Profile}
+use Rattle.canon_model.specs.Ties.{IsTie}
+use Rattle.canon_model.proofs.CallTies.{AreTies, are_ties-append, are_ties-none, ties_of_call_are_tied}
+use Rattle.canon_model.proofs.CanonicalLists.{AreCanonical, unique_hashes-canonical, valid_start}
+use Rattle.canon_model.proofs.Components.{IsComponent}
+use Rattle.canon_model.proofs.CountedAllowed.{counted_results-canonical, outcome_of_start}
+use Rattle.canon_model.proofs.Issuers.{are_distinct_from_once, in_from_is_issued, is_issued_from_in, not_in_from_is_issued}
+use Rattle.canon_model.proofs.LocalSymmetry.{are_quads}
+use Rattle.canon_model.proofs.Membership.{in_map_from, in_permutes}
+use Rattle.canon_model.proofs.OutcomeComponents.{component_of_outcome}
+use Rattle.canon_model.proofs.Permutations.{permutes_sym}
+use Rattle.canon_model.proofs.SortedResults.{sort_results-permutes}
+use Rattle.canon_model.proofs.StartNodes.{unissued_node}
+use Rattle.canon_model.proofs.Totality.{mentions_nodes}
+
+module _ (ρ : Profile) (D : Dataset) (valid : IsValid D) where
+  module _ (c : List ℕ) (k : AreCanonical D c) (h : Text) where
+    start-ties : (x : ℕ) → In x (unissued_nodes ρ D c h) → AreTies ρ D (counted_start ρ D c x).trace.ties
+    start-ties x i = let s = unissued_node ρ D c h x i in ties_of_call_are_tied ρ D c x (x ∷ []) valid (valid_start D c k x s.0 s.1)
+
+    starts-ties : (xs : List ℕ) → ((x : ℕ) → In x xs → In x (unissued_nodes ρ D c h)) → AreTies ρ D (trace_of_starts ρ D c xs).ties
+    starts-ties [] sub = are_ties-none ρ D
+    starts-ties (x ∷ xs) sub = are_ties-append ρ D (counted_start ρ D c x).trace.ties _ (start-ties x (sub x (inl refl))) (starts-ties xs (λ y g. sub y (inr g)))
+
+    from_start : (r : HashPathResult) → In r (counted_results ρ D c h) → (x : ℕ) × In x (unissued_nodes ρ D c h) × (r ≡ result_of ρ D c x)
+    from_start r i = in_map_from (result_of ρ D c) r (unissued_nodes ρ D c h) (in_permutes r (permutes_sym (sort_results-permutes (map (result_of ρ D c) (unissued_nodes ρ D c h)))) i)
+
+    start-component : (x : ℕ) → In x (unissued_nodes ρ D c h) → IsComponent D (are_quads D valid) c x (result_of ρ D c x).issuer
+    start-component x i = component_of_outcome ρ D (mentions_nodes D valid) (are_quads D valid) c x (result_of ρ D c x).hash (result_of ρ D c x).issuer (outcome_of_start ρ D valid c k h x i)
+
+    -- two components are one, or have no node in common
+    components-tails : (x y : ℕ) (l m : List ℕ) → IsComponent D (are_quads D valid) c x l → IsComponent D (are_quads D valid) c y m → ((z : ℕ) → (In z l ↔ In z m)) ⊎ ((z : ℕ) → In z l → ¬ (In z m))
+    components-tails x y l m p q = by (is_issued y l) refl
+      where
+        by : (t : Bool) → is_issued y l ≡ t → ((z : ℕ) → (In z l ↔ In z m)) ⊎ ((z : ℕ) → In z l → ¬ (In z m))
+        by true g = inl (λ z. (
+          λ a. in_from_is_issued z m (p.whole m q.closed y z g (is_issued_from_in z l a) q.start),
+          λ a. in_from_is_issued z l (q.whole l p.closed y z q.start (is_issued_from_in z m a) g),
+        ))
+        by false g = inr (λ z a b. true≢false (sym (q.whole l p.closed z y (is_issued_from_in z m b) q.start (is_issued_from_in z l a)) ∙ g))
+
+    pair-tie : (x y : ℕ) → In x (unissued_nodes ρ D c h) → In y (unissued_nodes ρ D c h) → (result_of ρ D c x).hash ≡ (result_of ρ D c y).hash → IsTie ρ D (record { canonical = c; passed = []; left = (result_of ρ D c x).issuer; right = (result_of ρ D c y).issuer })
+    pair-tie x y i j e =
+        let p = start-component x i in
+        let q = start-component y j in
+        record {
+          tied = inl (record {
+            passed_is = refl;
+            left_start = x;
+            right_start = y;
+            hash = (result_of ρ D c x).hash;
+            same_first_degree_hash = (unissued_node ρ D c h x i).2 ∙ sym (unissued_node ρ D c h y j).2;
+            left_outcome = outcome_of_start ρ D valid c k h x i;
+            right_outcome = subst (λ w. HashNDegreeQuads ρ D c y (y ∷ []) w (result_of ρ D c y).issuer) (sym e) (outcome_of_start ρ D valid c k h y j);
+          });
+          may_be_exchanged = record {
+            left_nodes = λ z a. p.below z (is_issued_from_in z (result_of ρ D c x).issuer a);
+            right_nodes = λ z a. q.below z (is_issued_from_in z (result_of ρ D c y).issuer a);
+            left_once = are_distinct_from_once (result_of ρ D c x).issuer p.distinct;
+            right_once = are_distinct_from_once (result_of ρ D c y).issuer q.distinct;
+            left_apart = λ z a. not_in_from_is_issued z c (p.free z (is_issued_from_in z (result_of ρ D c x).issuer a));
+            right_apart = λ z a. not_in_from_is_issued z c (q.free z (is_issued_from_in z (result_of ρ D c y).issuer a));
+            left_tail = (result_of ρ D c x).issuer;
+            right_tail = (result_of ρ D c y).issuer;
+            left_is = refl;
+            right_is = refl;
+            tails = components-tails x y (result_of ρ D c x).issuer (result_of ρ D c y).issuer p q;
+          };
+        }
+
+    ties_with-ties : (f : HashPathResult) (rs : List HashPathResult) → In f (counted_results ρ D c h) → ((r : HashPathResult) → In r rs → In r (counted_results ρ D c h)) → AreTies ρ D (ties_with c f rs)
+    ties_with-ties f [] fi sub = are_ties-none ρ D
+    ties_with-ties f (r ∷ rs) fi sub = by (bytes_eq f.hash r.hash) refl (ties_with-ties f rs fi (λ q g. sub q (inr g))) (ties_with-ties r rs (sub r (inl refl)) (λ q g. sub q (inr g)))
+      where
+        by : (t : Bool) → bytes_eq f.hash r.hash ≡ t → AreTies ρ D (ties_with c f rs) → AreTies ρ D (ties_with c r rs) → AreTies ρ D (cond t (record { canonical = c; passed = []; left = f.issuer; right = r.issuer } ∷ ties_with c f rs) (ties_with c r rs))
+        by true e u v t (inr g) = u t g
+        by true e u v t (inl g) =
+            let a = from_start f fi in
+            let z = from_start r (sub r (inl refl)) in
+            let tie = pair-tie a.0 z.0 a.1 z.1 (ap (λ (w : HashPathResult). w.hash) (sym a.2) ∙ (bytes_decides f.hash r.hash).0 e ∙ ap (λ (w : HashPathResult). w.hash) z.2) in
+            subst (IsTie ρ D) (sym (g ∙ (λ x. record { canonical = c; passed = []; left = (a.2 x).issuer; right = (z.2 x).issuer }))) tie
+        by false e u v t g = v t g
+
+    results-ties : AreTies ρ D (ties_of_results c (counted_results ρ D c h))
+    results-ties = by (counted_results ρ D c h) (λ r g. g)
+      where
+        by : (rs : List HashPathResult) → ((r : HashPathResult) → In r rs → In r (counted_results ρ D c h)) → AreTies ρ D (ties_of_results c rs)
+        by [] sub = are_ties-none ρ D
+        by (r ∷ rs) sub = ties_with-ties r rs (sub r (inl refl)) (λ q g. sub q (inr g))
+
+  hashes-ties : (hs : List Text) (c : List ℕ) → AreCanonical D c → AreTies ρ D (counted_hashes ρ D hs c).trace.ties
+  hashes-ties [] c k = are_ties-none ρ D
+  hashes-ties (h ∷ hs) c k =
+      let starts = (trace_of_starts ρ D c (unissued_nodes ρ D c h)).ties in
+      let own = ties_of_results c (counted_results ρ D c h) in
+      are_ties-append ρ D (starts ++ own) _ (are_ties-append ρ D starts own (starts-ties c k h (unissued_nodes ρ D c h) (λ x g. g)) (results-ties c k h))
+      (hashes-ties hs (issue_results c (counted_results ρ D c h)) (counted_results-canonical ρ D valid c k h))
+
+pub ties_of_run_are_tied : TiesOfRunAreTied
+ties_of_run_are_tied ρ D valid = hashes-ties ρ D valid (first_degree_hashes ρ D) (issued_for_unique_hashes ρ D) (unique_hashes-canonical ρ D)
