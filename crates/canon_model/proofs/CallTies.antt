@@ -1,5 +1,7 @@
 -- Each tie that the counted run of a call logs is tied, and its exchange may be checked.
 use Rattle.std.proofs.Common.{Bool, List, None, Option, Some, [], ap, append_assoc, arith, cond, false, inl, inr, refl, subst, suc, sym, true, true≢false, zero, ℕ, ◌++◌, ◌<◌, ◌∙◌, ◌∷◌, ◌≡◌, ◌⊎◌}
+use Rattle.rdf_terms.proofs.Membership.{In-append, In-append_right, from_In-map}
+use Rattle.rdf_terms.proofs.Permutations.{In-Permutes, Permutes-sym}
 use Rattle.rdf_terms.specs.Dataset.{Dataset}
 use Rattle.rdf_terms.specs.Lists.{In, Permutes, Text, is_before}
 use Rattle.canon_model.specs.Arrangements.{arrangements}
@@ -12,16 +14,14 @@ use Rattle.canon_model.specs.Outcome.{DataToHash, HashNDegreeQuads}
 use Rattle.canon_model.specs.Profile.{Profile}
 use Rattle.canon_model.specs.Ties.{AreTiedPaths, IsTie, MayBeBegun, MayBeExchanged}
 use Rattle.canon_model.specs.Walk.{PermutationPath, issuer_copy_after, path_of_identifiers, path_of_result, recursion_list}
-use Rattle.canon_model.proofs.Arrangements.{in_arrangements, in_arrangements_from}
+use Rattle.canon_model.proofs.Arrangements.{In-arrangements, from_In-arrangements}
 use Rattle.canon_model.proofs.CanonicalLists.{AreCanonical}
 use Rattle.canon_model.proofs.CountedGrows.{counted_call-grows, counted_permutations-grows}
 use Rattle.canon_model.proofs.CountedPaths.{Either, Kept, counted_permutations-kept, full_issuer, full_path, issuer_of, none_kept, path_of}
-use Rattle.canon_model.proofs.Coverage.{hash_n_degree_quads-covers, in_recursion_list_from, issuer_copy_after-issued, permutation_path-coverage}
+use Rattle.canon_model.proofs.Coverage.{from_In-recursion_list, hash_n_degree_quads-covers, issuer_copy_after-issued, permutation_path-coverage}
 use Rattle.canon_model.proofs.Depth.{n_degree_within-depth}
-use Rattle.canon_model.proofs.Issuers.{AreOnce, Grows, are_distinct_from_once, are_once_from_distinct, begins_refl, grows_trans, in_from_is_issued, is_issued-begins, is_issued_from_in, issuer_copy_after-grows, not_in_from_is_issued}
-use Rattle.canon_model.proofs.Membership.{in_append_cases, in_append_right, in_map_from, in_permutes}
+use Rattle.canon_model.proofs.Issuers.{AreOnce, Grows, In-from_is_issued, are_distinct_from_once, are_once_from_distinct, begins_refl, grows_trans, is_issued-begins, is_issued-from_In, issuer_copy_after-grows, not_In-from_is_issued}
 use Rattle.canon_model.proofs.OutcomesGrow.{data_to_hash-push}
-use Rattle.canon_model.proofs.Permutations.{permutes_sym}
 use Rattle.canon_model.proofs.Totality.{Fits, MentionsNodes, fits_after_path, fits_counted_call, fits_counted_group, fits_recursion, fits_valid_call, group-counted, mentions_nodes, n_degree_within-counted, nodes_of_groups, permutation_path-counted}
 
 abbrev pub AreTies : Profile → Dataset → List Tie → Type 0
@@ -31,7 +31,7 @@ pub are_ties-none : (ρ : Profile) (D : Dataset) → AreTies ρ D []
 are_ties-none ρ D t h = absurd h
 
 pub are_ties-append : (ρ : Profile) (D : Dataset) (ts us : List Tie) → AreTies ρ D ts → AreTies ρ D us → AreTies ρ D (ts ++ us)
-are_ties-append ρ D ts us a b t h = elim (in_append_cases t ts us h) [ inl g ↦ a t g | inr g ↦ b t g ]
+are_ties-append ρ D ts us a b t h = elim (In-append ts us t h) [ inl g ↦ a t g | inr g ↦ b t g ]
 
 are_ties_cond : (ρ : Profile) (D : Dataset) (s : Bool) (t u : Counted (Option Outcome)) → AreTies ρ D t.trace.ties → AreTies ρ D u.trace.ties → AreTies ρ D (cond s t u).trace.ties
 are_ties_cond ρ D true t u a b = a
@@ -41,11 +41,11 @@ are_ties_cond ρ D false t u a b = b
 
 are_once-apart : (xs ys : List ℕ) → AreOnce (xs ++ ys) → (x : ℕ) → In x xs → ¬ (In x ys)
 are_once-apart [] ys d x h g = h
-are_once-apart (y ∷ xs) ys d x (inl e) g = not_in_from_is_issued y (xs ++ ys) d.0 (in_append_right y xs ys (subst (λ w. In w ys) e g))
+are_once-apart (y ∷ xs) ys d x (inl e) g = not_In-from_is_issued y (xs ++ ys) d.0 (In-append_right xs ys y (subst (λ w. In w ys) e g))
 are_once-apart (y ∷ xs) ys d x (inr h) g = are_once-apart xs ys d.1 x h g
 
 in_other_tail : (i l m : List ℕ) (p : BeginsWith i l) (q : BeginsWith i m) → AreOnce l → ((x : ℕ) → In x l → In x m) → (x : ℕ) → In x p.tail → In x q.tail
-in_other_tail i l m p q d sub x h = by (in_append_cases x i q.tail (subst (In x) q.is (sub x (subst (In x) (sym p.is) (in_append_right x i p.tail h)))))
+in_other_tail i l m p q d sub x h = by (In-append i q.tail x (subst (In x) q.is (sub x (subst (In x) (sym p.is) (In-append_right i p.tail x h)))))
   where
     by : In x i ⊎ In x q.tail → In x q.tail
     by (inl a) = absurd (are_once-apart i p.tail (subst AreOnce p.is d) x a h)
@@ -54,12 +54,12 @@ in_other_tail i l m p q d sub x h = by (in_append_cases x i q.tail (subst (In x)
 module _ (ρ : Profile) (D : Dataset) (c : List ℕ) (nodes : MentionsNodes D) (canonical : AreCanonical D c) where
   pub valid_call : (k n : ℕ) (i : List ℕ) → is_issued n i ≡ true → Fits ρ D c nodes k i → IsValidCall D c n i
   valid_call k n i hn f = record {
-    canonical_nodes = λ x h. canonical.below x (is_issued_from_in x c h);
-    temporary_nodes = λ x h. f.below x (is_issued_from_in x i h);
+    canonical_nodes = λ x h. canonical.below x (is_issued-from_In x c h);
+    temporary_nodes = λ x h. f.below x (is_issued-from_In x i h);
     canonical_once = are_distinct_from_once c canonical.once;
     temporary_once = are_distinct_from_once i f.distinct;
-    apart = λ x h g. not_in_from_is_issued x c (f.apart x (is_issued_from_in x i g)) h;
-    listed = in_from_is_issued n i hn;
+    apart = λ x h g. not_In-from_is_issued x c (f.apart x (is_issued-from_In x i g)) h;
+    listed = In-from_is_issued n i hn;
   }
 
   outcome-counted : (k m : ℕ) (i : List ℕ) → is_issued m i ≡ true → Fits ρ D c nodes k i → HashNDegreeQuads ρ D c m i (counted_call_within k ρ D c m i).value.text (counted_call_within k ρ D c m i).value.issuer
@@ -86,7 +86,7 @@ module _ (ρ : Profile) (D : Dataset) (c : List ℕ) (nodes : MentionsNodes D) (
     permutation-ties : (b : Option Text) (i p : List ℕ) → Fits ρ D c nodes (suc k) i → ((x : ℕ) → In x p → x < D.nodes) → AreTies ρ D (counted_permutation (counted_call_within k ρ D c) b c i p).trace.ties
     permutation-ties b i p f low = are_ties_cond ρ D (is_skipped b c i [] p) _ _ (are_ties-none ρ D)
         (recursion-ties b (recursion_list c i p) (issuer_copy_after c i p) (path_of_identifiers c i p) (fits_recursion ρ D c nodes k i p f low)
-        (λ m h. let q = in_recursion_list_from D c i p m h in issuer_copy_after-issued D c i p m q.0 q.1))
+        (λ m h. let q = from_In-recursion_list D c i p m h in issuer_copy_after-issued D c i p m q.0 q.1))
 
     permutations-ties : (b : Option Chosen) (i : List ℕ) (ps : List (List ℕ)) → Fits ρ D c nodes (suc k) i → ((p : List ℕ) → In p ps → (x : ℕ) → In x p → x < D.nodes) → AreTies ρ D (counted_permutations (counted_call_within k ρ D c) b c i ps).trace.ties
     permutations-ties b i [] f low = are_ties-none ρ D
@@ -115,7 +115,7 @@ module _ (ρ : Profile) (D : Dataset) (c : List ℕ) (nodes : MentionsNodes D) (
       issuer = issuer_of (counted_call_within k ρ D c) c i
 
       bag_below : (p : List ℕ) → Permutes bag p → (x : ℕ) → In x p → x < D.nodes
-      bag_below p q x a = nodes_of_groups ρ D c nodes passed n h x (in_permutes x (permutes_sym q) a)
+      bag_below p q x a = nodes_of_groups ρ D c nodes passed n h x (In-Permutes x (Permutes-sym q) a)
 
       walks : (p : List ℕ) → Permutes bag p → PermutationPath (HashNDegreeQuads ρ D c) c i p (path p) (issuer p)
       walks p q = record {
@@ -140,16 +140,16 @@ module _ (ρ : Profile) (D : Dataset) (c : List ℕ) (nodes : MentionsNodes D) (
         where
           over : In x i ⊎ Reached D c i (λ y. In y p) x → In x i ⊎ Reached D c i (λ y. In y q) x
           over (inl u) = inl u
-          over (inr u) = inr (reach p q (λ y v. in_permutes y b (in_permutes y (permutes_sym a) v)) u)
+          over (inr u) = inr (reach p q (λ y v. In-Permutes y b (In-Permutes y (Permutes-sym a) v)) u)
 
       may_be_exchanged : (p q : List ℕ) → Permutes bag p → Permutes bag q → MayBeExchanged D c i (issuer p) (issuer q)
       may_be_exchanged p q a b = record {
-        left_nodes = λ x h. (fits_issuer p a).below x (is_issued_from_in x (issuer p) h);
-        right_nodes = λ x h. (fits_issuer q b).below x (is_issued_from_in x (issuer q) h);
+        left_nodes = λ x h. (fits_issuer p a).below x (is_issued-from_In x (issuer p) h);
+        right_nodes = λ x h. (fits_issuer q b).below x (is_issued-from_In x (issuer q) h);
         left_once = are_distinct_from_once (issuer p) (fits_issuer p a).distinct;
         right_once = are_distinct_from_once (issuer q) (fits_issuer q b).distinct;
-        left_apart = λ x h. not_in_from_is_issued x c ((fits_issuer p a).apart x (is_issued_from_in x (issuer p) h));
-        right_apart = λ x h. not_in_from_is_issued x c ((fits_issuer q b).apart x (is_issued_from_in x (issuer q) h));
+        left_apart = λ x h. not_In-from_is_issued x c ((fits_issuer p a).apart x (is_issued-from_In x (issuer p) h));
+        right_apart = λ x h. not_In-from_is_issued x c ((fits_issuer q b).apart x (is_issued-from_In x (issuer q) h));
         left_tail = (covers p a).begins.tail;
         right_tail = (covers q b).begins.tail;
         left_is = (covers p a).begins.is;
@@ -181,20 +181,20 @@ module _ (ρ : Profile) (D : Dataset) (c : List ℕ) (nodes : MentionsNodes D) (
       unfolding Kept
       chosen-ties None kept t h = absurd h
       chosen-ties (Some b) kept t h =
-          let r = in_map_from (λ right. record { canonical = c; passed = i; left = b.issuer; right = right }) t b.others h in
+          let r = from_In-map (λ right. record { canonical = c; passed = i; left = b.issuer; right = right }) b.others t h in
           let left = kept.all b.issuer (inl refl) in
           let right = kept.all r.0 (inr r.1) in
           let lp = arranged left.0 left.1 in
           let rp = arranged right.0 right.1 in
           let tie : IsTie ρ D (record { canonical = c; passed = i; left = issuer left.0; right = issuer right.0 }) = record {
-            tied = inr (tied_paths left.0 right.0 lp rp (λ p q. subst (λ w. is_before (path p) w ≡ false) (sym left.2) (kept.below p (inr (in_arrangements bag p q)))) (left.2 ∙ sym right.2));
+            tied = inr (tied_paths left.0 right.0 lp rp (λ p q. subst (λ w. is_before (path p) w ≡ false) (sym left.2) (kept.below p (inr (In-arrangements bag p q)))) (left.2 ∙ sym right.2));
             may_be_exchanged = may_be_exchanged left.0 right.0 lp rp;
           } in
           subst (IsTie ρ D) (sym (r.2 ∙ (λ x. record { canonical = c; passed = i; left = sym left.3 x; right = sym right.3 x }))) tie
         where
           arranged : (q : List ℕ) → ⊥ ⊎ In q (arrangements bag) → Permutes bag q
           arranged q (inl g) = absurd g
-          arranged q (inr g) = in_arrangements_from bag q g
+          arranged q (inr g) = from_In-arrangements bag q g
 
     -- ---- the groups in turn
 
@@ -222,7 +222,7 @@ module _ (ρ : Profile) (D : Dataset) (c : List ℕ) (nodes : MentionsNodes D) (
           fits = fits_counted_group ρ D c nodes k (HashNDegreeQuads ρ D c) (hash_n_degree_quads-covers D c ρ) (outcome-counted k) bag i st.fits low;
           some = λ q. st.some (front_nil i g.0.tail (sym g.0.is ∙ q));
         } in
-        are_ties-append ρ D t.trace.ties _ (permutations-ties None i (arrangements bag) st.fits (λ p a x u. low x (in_permutes x (permutes_sym (in_arrangements_from bag p a)) u)))
+        are_ties-append ρ D t.trace.ties _ (permutations-ties None i (arrangements bag) st.fits (λ p a x u. low x (In-Permutes x (Permutes-sym (from_In-arrangements bag p a)) u)))
         (are_ties-append ρ D (ties_of_chosen t.value c i) _ (chosen-ties n passed h i begun st.fits st.some t.value kept)
         (groups-ties n passed (before ++ h ∷ []) (s ++ (h ++ path_or_none t.value)) (issuer_or t.value i) hs (e ∙ sym (append_assoc before (h ∷ []) hs)) next))
       where
@@ -241,5 +241,5 @@ module _ (ρ : Profile) (D : Dataset) (c : List ℕ) (nodes : MentionsNodes D) (
       })
 
 pub ties_of_call_are_tied : TiesOfCallAreTied
-ties_of_call_are_tied ρ D c n i valid v = counted_call-ties ρ D c (mentions_nodes D valid) (record { once = are_once_from_distinct c v.canonical_once; below = λ x h. v.canonical_nodes x (in_from_is_issued x c h) })
-    (suc D.nodes) n i (is_issued_from_in n i v.listed) (fits_valid_call ρ D c (mentions_nodes D valid) (suc D.nodes) n i v (omega arith))
+ties_of_call_are_tied ρ D c n i valid v = counted_call-ties ρ D c (mentions_nodes D valid) (record { once = are_once_from_distinct c v.canonical_once; below = λ x h. v.canonical_nodes x (In-from_is_issued x c h) })
+    (suc D.nodes) n i (is_issued-from_In n i v.listed) (fits_valid_call ρ D c (mentions_nodes D valid) (suc D.nodes) n i v (omega arith))

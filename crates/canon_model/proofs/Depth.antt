@@ -1,5 +1,6 @@
 -- Any depth with room for every node gives the same outcomes and the same counted run.
 use Rattle.std.proofs.Common.{Bool, List, None, Option, [], ap, arith, cond, false, inl, inr, leb, leb-false, leb-true, refl, subst, suc, sym, true, zero, ℕ, ◌++◌, ◌<◌, ◌∙◌, ◌∷◌, ◌≡◌, ◌≤◌, ◌⊎◌}
+use Rattle.rdf_terms.proofs.Permutations.{In-Permutes, Permutes-sym}
 use Rattle.rdf_terms.specs.Dataset.{Dataset}
 use Rattle.rdf_terms.specs.Lists.{In, Text}
 use Rattle.canon_model.specs.Arrangements.{arrangements}
@@ -11,14 +12,11 @@ use Rattle.canon_model.specs.Laws.{DepthDoesNotMatter}
 use Rattle.canon_model.specs.Outcome.{ChosenPath, DataToHash, NDegreeWithin}
 use Rattle.canon_model.specs.Profile.{Profile}
 use Rattle.canon_model.specs.Walk.{CallRelation, PermutationPath, RecursionResults, issuer_copy_after, path_of_identifiers, path_of_result, recursion_list}
-use Rattle.canon_model.proofs.Arrangements.{in_arrangements_from}
+use Rattle.canon_model.proofs.Arrangements.{from_In-arrangements}
 use Rattle.canon_model.proofs.CountedGrows.{counted_call-grows}
-use Rattle.canon_model.proofs.Coverage.{AllCover, in_recursion_list_from, issuer_copy_after-issued, n_degree_within-covers, permutation_path-coverage}
-use Rattle.canon_model.proofs.Issuers.{is_issued-begins, is_issued_from_in}
-use Rattle.canon_model.proofs.Membership.{in_permutes}
-use Rattle.canon_model.proofs.Order.{R}
+use Rattle.canon_model.proofs.Coverage.{AllCover, from_In-recursion_list, issuer_copy_after-issued, n_degree_within-covers, permutation_path-coverage}
+use Rattle.canon_model.proofs.Issuers.{is_issued-begins, is_issued-from_In}
 use Rattle.canon_model.proofs.OutcomesGrow.{AllGrow, chosen_path-grows, n_degree_within-grows}
-use Rattle.canon_model.proofs.Permutations.{permutes_sym}
 use Rattle.canon_model.proofs.Pigeonhole.{are_once-length}
 use Rattle.canon_model.proofs.Totality.{Fits, MentionsNodes, fits_after_call, fits_after_path, fits_counted_call, fits_counted_group, fits_recursion, fits_valid_call, mentions_nodes, n_degree_within-counted, nodes_of_groups}
 
@@ -50,7 +48,7 @@ module _ (ρ : Profile) (D : Dataset) (c : List ℕ) (nodes : MentionsNodes D) w
     permutation_path-more i p π j f low w = record {
       results = w.results;
       calls = recursion_results-more (recursion_list c i p) (issuer_copy_after c i p) w.results j (fits_recursion ρ D c nodes k i p f low)
-          (λ m h. let q = in_recursion_list_from D c i p m h in issuer_copy_after-issued D c i p m q.0 q.1) w.calls;
+          (λ m h. let q = from_In-recursion_list D c i p m h in issuer_copy_after-issued D c i p m q.0 q.1) w.calls;
       path_is = w.path_is;
     }
 
@@ -59,7 +57,7 @@ module _ (ρ : Profile) (D : Dataset) (c : List ℕ) (nodes : MentionsNodes D) w
       paths = record {
         path = w.paths.path;
         issuer = w.paths.issuer;
-        walks = λ p q. permutation_path-more i p (w.paths.path p) (w.paths.issuer p) f (λ x a. low x (in_permutes x (permutes_sym q) a)) (w.paths.walks p q);
+        walks = λ p q. permutation_path-more i p (w.paths.path p) (w.paths.issuer p) f (λ x a. low x (In-Permutes x (Permutes-sym q) a)) (w.paths.walks p q);
       };
       chosen = w.chosen;
       is_least = w.is_least;
@@ -68,7 +66,7 @@ module _ (ρ : Profile) (D : Dataset) (c : List ℕ) (nodes : MentionsNodes D) w
     }
 
     fits_chosen : (bg i : List ℕ) (π : Text) (j : List ℕ) → Fits ρ D c nodes (suc k) i → ((x : ℕ) → In x bg → x < D.nodes) → ChosenPath R c bg i π j → Fits ρ D c nodes (suc k) j
-    fits_chosen bg i π j f low w = fits_after_path ρ D c nodes (suc k) i w.chosen j (λ x a. low x (in_permutes x (permutes_sym w.is_least.permutes) a))
+    fits_chosen bg i π j f low w = fits_after_path ρ D c nodes (suc k) i w.chosen j (λ x a. low x (In-Permutes x (Permutes-sym w.is_least.permutes) a))
         (chosen_path-grows c R grows bg i π j f.distinct w)
         (subst (Covers D c i (λ y. In y w.chosen)) (sym w.issuer_is) (permutation_path-coverage D c R cover i w.chosen (w.paths.path w.chosen) (w.paths.issuer w.chosen) (w.paths.walks w.chosen w.is_least.permutes))) f
 
@@ -116,7 +114,7 @@ module _ (ρ : Profile) (D : Dataset) (c : List ℕ) (nodes : MentionsNodes D) w
     counted_permutation-same : (b : Option Text) (i p : List ℕ) → Fits ρ D c nodes (suc k) i → ((x : ℕ) → In x p → x < D.nodes) → counted_permutation (counted_call_within k ρ D c) b c i p ≡ counted_permutation call b c i p
     counted_permutation-same b i p f low = ap (λ (r : Counted (Option Outcome)). cond (is_skipped b c i [] p) (record { trace = nothing; value = None }) r)
         (counted_recursion-same b (recursion_list c i p) (issuer_copy_after c i p) (path_of_identifiers c i p) (fits_recursion ρ D c nodes k i p f low)
-        (λ m h. let q = in_recursion_list_from D c i p m h in issuer_copy_after-issued D c i p m q.0 q.1))
+        (λ m h. let q = from_In-recursion_list D c i p m h in issuer_copy_after-issued D c i p m q.0 q.1))
 
     counted_permutations-same : (b : Option Chosen) (i : List ℕ) (ps : List (List ℕ)) → Fits ρ D c nodes (suc k) i → ((p : List ℕ) → In p ps → (x : ℕ) → In x p → x < D.nodes) → counted_permutations (counted_call_within k ρ D c) b c i ps ≡ counted_permutations call b c i ps
     counted_permutations-same b i [] f low = refl
@@ -137,7 +135,7 @@ module _ (ρ : Profile) (D : Dataset) (c : List ℕ) (nodes : MentionsNodes D) w
         let t = counted_permutations (counted_call_within k ρ D c) None c i (arrangements (b h)) in
         ap (whole h i t) (counted_groups-same b low hs (issuer_or t.value i) (fits_counted_group ρ D c nodes k (NDegreeWithin k ρ D c) (n_degree_within-covers D c ρ k) (n_degree_within-counted ρ D c nodes k) (b h) i f (low h)))
         ∙ ap (λ (u : Counted (Option Chosen)). whole h i u (counted_groups call c b hs (issuer_or u.value i)))
-        (counted_permutations-same None i (arrangements (b h)) f (λ p g x a. low h x (in_permutes x (permutes_sym (in_arrangements_from (b h) p g)) a)))
+        (counted_permutations-same None i (arrangements (b h)) f (λ p g x a. low h x (In-Permutes x (Permutes-sym (from_In-arrangements (b h) p g)) a)))
 
   pub counted_call-deeper : (k depth : ℕ) → k ≤ depth → (m : ℕ) (i : List ℕ) → is_issued m i ≡ true → Fits ρ D c nodes k i → counted_call_within k ρ D c m i ≡ counted_call_within depth ρ D c m i
   counted_call-deeper zero depth l m i hm f =
@@ -166,7 +164,7 @@ depth_does_not_matter ρ D c n i valid v depth room = (
 )
   where
     hn : is_issued n i ≡ true
-    hn = is_issued_from_in n i v.listed
+    hn = is_issued-from_In n i v.listed
 
     here : Fits ρ D c (mentions_nodes D valid) depth i
     here = fits_valid_call ρ D c (mentions_nodes D valid) depth n i v room

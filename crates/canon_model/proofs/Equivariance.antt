@@ -1,7 +1,10 @@
 -- The relation under a bijection of the nodes.
 use Rattle.std.proofs.Common.{List, None, Option, Some, [], ap, codes, eq-eqb, eqb, false, inl, inr, map, ne_eqb, refl, subst, suc, sym, zero, ℕ, ◌++◌, ◌<◌, ◌∙◌, ◌∷◌, ◌≡◌, ◌⊎◌}
 use Rattle.std.proofs.lemmas.Bool.{cases_eq}
+use Rattle.rdf_terms.proofs.Membership.{In-map, from_In-map}
+use Rattle.rdf_terms.proofs.Permutations.{Permutes-from_equal, Permutes-map, Permutes-sym}
 use Rattle.rdf_terms.specs.Dataset.{Dataset}
+use Rattle.rdf_terms.specs.Document.{statements}
 use Rattle.rdf_terms.specs.Isomorphism.{Carries, Relabelling, relabel_graph_name, relabel_statement, relabel_term}
 use Rattle.rdf_terms.specs.Lists.{AreDistinct, In, Permutes, Text, is_before, permutes_trans}
 use Rattle.rdf_terms.specs.Terms.{Statement}
@@ -14,9 +17,6 @@ use Rattle.canon_model.specs.Outcome.{ChosenPath, DataToHash, HashNDegreeQuads, 
 use Rattle.canon_model.specs.Profile.{Profile}
 use Rattle.canon_model.specs.Walk.{CallRelation, PermutationPath, RecursionResults, issuer_copy_after, recursion_list}
 use Rattle.canon_model.proofs.Maps.{map-map, map_identity}
-use Rattle.canon_model.proofs.Membership.{in_map, in_map_from}
-use Rattle.canon_model.proofs.Order.{R}
-use Rattle.canon_model.proofs.Permutations.{permutes_equal, permutes_map, permutes_sym}
 use Rattle.canon_model.proofs.Relabel.{issuer_copy_after-relabel, label-relabel, path_of_identifiers-relabel, recursion_list-relabel, related_entries-relabel}
 use Rattle.canon_model.proofs.RelabelGroups.{blank_node_list-relabel, related_hashes-relabel}
 
@@ -60,7 +60,7 @@ module _ (σ τ : ℕ → ℕ) (one : (x y : ℕ) → eqb (σ x) (σ y) ≡ eqb 
       };
       chosen = map σ w.chosen;
       is_least = record {
-        permutes = permutes_trans (permutes_sym e) (permutes_map σ w.is_least.permutes);
+        permutes = permutes_trans (Permutes-sym e) (Permutes-map σ w.is_least.permutes);
         least = λ p q. subst (λ r. is_before (w.paths.path (map τ p)) (w.paths.path r) ≡ false) (sym (map_back w.chosen)) (w.is_least.least (map τ p) (taken_back p q));
       };
       path_is = w.path_is ∙ ap w.paths.path (sym (map_back w.chosen));
@@ -68,7 +68,7 @@ module _ (σ τ : ℕ → ℕ) (one : (x y : ℕ) → eqb (σ x) (σ y) ≡ eqb 
     }
       where
         taken_back : (p : List ℕ) → Permutes d p → Permutes b (map τ p)
-        taken_back p q = subst (λ r. Permutes r (map τ p)) (map_back b) (permutes_map τ (permutes_trans e q))
+        taken_back p q = subst (λ r. Permutes r (map τ p)) (map_back b) (Permutes-map τ (permutes_trans e q))
 
     data_to_hash-relabel : (b d : Text → List ℕ) → ((h : Text) → Permutes (map σ (b h)) (d h)) → (hs : List Text) (i : List ℕ) (s : Text) (j : List ℕ) → DataToHash R c b hs i s j → DataToHash S (map σ c) d hs (map σ i) s (map σ j)
     data_to_hash-relabel b d e [] i s j w = (w.0, ap (map σ) w.1)
@@ -129,25 +129,25 @@ back_relabelling D E σ e = record {
 pub carries_back : (σ τ : ℕ → ℕ) → ((x : ℕ) → τ (σ x) ≡ x) → (D E : Dataset) → Carries σ D E → Carries τ E D
 carries_back σ τ e D E car = record {
   nodes = sym car.nodes;
-  statements = permutes_trans (permutes_map (relabel_statement τ) (permutes_sym car.statements)) (permutes_equal (map-map (relabel_statement τ) (relabel_statement σ) D.statements ∙ map_identity (λ q. relabel_statement τ (relabel_statement σ q)) (relabel_statement-back τ σ e) D.statements));
+  statements = permutes_trans (Permutes-map (relabel_statement τ) (Permutes-sym car.statements)) (Permutes-from_equal (map-map (relabel_statement τ) (relabel_statement σ) D.statements ∙ map_identity (λ q. relabel_statement τ (relabel_statement σ q)) (relabel_statement-back τ σ e) D.statements));
 }
 
 -- ---- the law
 
-pub distinct_map : {A B : Type 0} (f : A → B) (g : B → A) → ((x : A) → g (f x) ≡ x) → (xs : List A) → AreDistinct xs → AreDistinct (map f xs)
-distinct_map f g e [] d = tt
-distinct_map f g e (x ∷ xs) d = (λ h. let r = in_map_from f (f x) xs h in d.0 (subst (λ w. In w xs) (sym (e r.0) ∙ ap g (sym r.2) ∙ e x) r.1), distinct_map f g e xs d.1)
+pub AreDistinct-map : {A B : Type 0} (f : A → B) (g : B → A) → ((x : A) → g (f x) ≡ x) → (xs : List A) → AreDistinct xs → AreDistinct (map f xs)
+AreDistinct-map f g e [] d = tt
+AreDistinct-map f g e (x ∷ xs) d = (λ h. let r = from_In-map f xs (f x) h in d.0 (subst (λ w. In w xs) (sym (e r.0) ∙ ap g (sym r.2) ∙ e x) r.1), AreDistinct-map f g e xs d.1)
 
 valid_call-relabel : (D E : Dataset) (σ τ : ℕ → ℕ) → ((x : ℕ) → τ (σ x) ≡ x) → ((x : ℕ) → x < D.nodes → σ x < E.nodes)
     → (c : List ℕ) (n : ℕ) (i : List ℕ) → IsValidCall D c n i → IsValidCall E (map σ c) (σ n) (map σ i)
 valid_call-relabel D E σ τ back low c n i v = record {
-  canonical_nodes = λ x h. let r = in_map_from σ x c h in subst (λ w. w < E.nodes) (sym r.2) (low r.0 (v.canonical_nodes r.0 r.1));
-  temporary_nodes = λ x h. let r = in_map_from σ x i h in subst (λ w. w < E.nodes) (sym r.2) (low r.0 (v.temporary_nodes r.0 r.1));
-  canonical_once = distinct_map σ τ back c v.canonical_once;
-  temporary_once = distinct_map σ τ back i v.temporary_once;
-  apart = λ x h g. let r = in_map_from σ x c h in let s = in_map_from σ x i g in
+  canonical_nodes = λ x h. let r = from_In-map σ c x h in subst (λ w. w < E.nodes) (sym r.2) (low r.0 (v.canonical_nodes r.0 r.1));
+  temporary_nodes = λ x h. let r = from_In-map σ i x h in subst (λ w. w < E.nodes) (sym r.2) (low r.0 (v.temporary_nodes r.0 r.1));
+  canonical_once = AreDistinct-map σ τ back c v.canonical_once;
+  temporary_once = AreDistinct-map σ τ back i v.temporary_once;
+  apart = λ x h g. let r = from_In-map σ c x h in let s = from_In-map σ i x g in
       v.apart r.0 r.1 (subst (λ w. In w i) (sym (back s.0) ∙ ap τ (sym s.2 ∙ r.2) ∙ back r.0) s.1);
-  listed = in_map σ n i v.listed;
+  listed = In-map σ i n v.listed;
 }
 
 pub outcome-relabel : (ρ : Profile) (D E : Dataset) (σ : Relabelling D.nodes) → Carries σ.to D E → (c : List ℕ) (n : ℕ) (i : List ℕ) (h : Text) (j : List ℕ)

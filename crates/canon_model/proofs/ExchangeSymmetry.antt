@@ -1,8 +1,10 @@
 -- Exchanges that agree with a symmetry on each quad are symmetries.
 use Rattle.std.proofs.Common.{Bool, List, None, Some, [], ap, ap₂, cond, eqb, eqb-true, false, inl, inr, length, length-append, map, refl, subst, suc, sym, true, true≢false, ℕ, ◌++◌, ◌+◌, ◌<◌, ◌||◌, ◌∙◌, ◌∷◌, ◌≡◌, ◌⊎◌}
 use Rattle.std.proofs.lemmas.Bool.{or_cases, or_parts}
+use Rattle.rdf_terms.proofs.Membership.{In-map}
 use Rattle.rdf_terms.specs.CanonicalForm.{after_first, place_of}
 use Rattle.rdf_terms.specs.Dataset.{Dataset, mentions}
+use Rattle.rdf_terms.specs.Document.{statement}
 use Rattle.rdf_terms.specs.Isomorphism.{Relabelling, Symmetry}
 use Rattle.rdf_terms.specs.Lists.{In}
 use Rattle.rdf_terms.specs.Terms.{Statement}
@@ -10,10 +12,9 @@ use Rattle.canon_model.specs.Coverage.{ShareQuad}
 use Rattle.canon_model.specs.Issuer.{is_issued}
 use Rattle.canon_model.specs.Ties.{node_at}
 use Rattle.canon_model.proofs.Exchange.{by_place-map, place_front}
-use Rattle.canon_model.proofs.Issuers.{AreOnce, Keeps, in_from_is_issued, is_issued-append, is_issued_from_in, map_fixed}
+use Rattle.canon_model.proofs.Issuers.{AreOnce, In-from_is_issued, Keeps, is_issued-append, is_issued-from_In, map_fixed}
 use Rattle.canon_model.proofs.LocalSymmetry.{AreQuads, carries_locally, quad_cases}
 use Rattle.canon_model.proofs.Maps.{map-map}
-use Rattle.canon_model.proofs.Membership.{in_map}
 use Rattle.canon_model.proofs.Symmetries.{identity_symmetry}
 
 abbrev pub by_places : List ℕ → List ℕ → ℕ → ℕ
@@ -44,7 +45,7 @@ pub by_places-outside : (l m : List ℕ) (x : ℕ) → is_issued x l ≡ false �
 by_places-outside l m x h = ap (λ o. node_at o m x) (place_of-outside x l h)
 
 pub is_issued-map : (f : ℕ → ℕ) (x : ℕ) (xs : List ℕ) → is_issued x xs ≡ true → is_issued (f x) (map f xs) ≡ true
-is_issued-map f x xs h = is_issued_from_in (f x) (map f xs) (in_map f x xs (in_from_is_issued x xs h))
+is_issued-map f x xs h = is_issued-from_In (f x) (map f xs) (In-map f xs x (In-from_is_issued x xs h))
 
 pub by_places-inside : (l m : List ℕ) → AreOnce l → length l ≡ length m → (x : ℕ) → is_issued x l ≡ true → is_issued (by_places l m x) m ≡ true
 by_places-inside l m d e x h = subst (λ w. is_issued (by_places l m x) w ≡ true) (by_places-map l m d e) (is_issued-map (by_places l m) x l h)

@@ -1,6 +1,9 @@
 -- The gluing law: a symmetry on one part, its inverse on the part that it is carried to, and nothing elsewhere.
 use Rattle.std.proofs.Common.{Bool, List, [], ap, cond, false, inl, inr, map, refl, sym, true, true≢false, ℕ, ◌<◌, ◌∙◌, ◌≡◌, ◌⊎◌}
+use Rattle.rdf_terms.proofs.Membership.{In-map}
+use Rattle.rdf_terms.proofs.Permutations.{In-Permutes}
 use Rattle.rdf_terms.specs.Dataset.{Dataset, mentions}
+use Rattle.rdf_terms.specs.Document.{statement}
 use Rattle.rdf_terms.specs.Isomorphism.{Carries, Relabelling, Symmetry, relabel_statement}
 use Rattle.rdf_terms.specs.Lists.{In}
 use Rattle.rdf_terms.specs.Terms.{Statement}
@@ -8,9 +11,8 @@ use Rattle.canon_model.specs.Coverage.{ShareQuad}
 use Rattle.canon_model.specs.Issuer.{is_issued}
 use Rattle.canon_model.specs.Laws.{Gluing}
 use Rattle.canon_model.proofs.Equivariance.{same_test}
-use Rattle.canon_model.proofs.Issuers.{Keeps, in_from_is_issued, is_issued_from_in, is_issued_from_not_in}
+use Rattle.canon_model.proofs.Issuers.{In-from_is_issued, Keeps, is_issued-from_In, is_issued-from_not_In}
 use Rattle.canon_model.proofs.LocalSymmetry.{AreQuads, are_quads, carries_locally, quad_cases}
-use Rattle.canon_model.proofs.Membership.{in_map, in_permutes}
 use Rattle.canon_model.proofs.Relabel.{is_issued-relabel, mentions-relabel}
 use Rattle.canon_model.proofs.Symmetries.{identity_symmetry, inverse_symmetry}
 
@@ -24,7 +26,7 @@ unglued D τ X x = cond (is_issued x (map τ.relabelling.to X)) (τ.relabelling.
 carried : (D : Dataset) (σ : Symmetry D) (q : Statement) (x y : ℕ) → In q D.statements → mentions x q ≡ true → mentions y q ≡ true → ShareQuad D (σ.relabelling.to x) (σ.relabelling.to y)
 carried D σ q x y h a b = record {
   statement = relabel_statement σ.relabelling.to q;
-  there = in_permutes (relabel_statement σ.relabelling.to q) σ.keeps.statements (in_map (relabel_statement σ.relabelling.to) q D.statements h);
+  there = In-Permutes (relabel_statement σ.relabelling.to q) σ.keeps.statements (In-map (relabel_statement σ.relabelling.to) D.statements q h);
   mentions_first = mentions-relabel σ.relabelling.to (same_test σ.relabelling.to σ.relabelling.from σ.relabelling.from-to) x q ∙ a;
   mentions_second = mentions-relabel σ.relabelling.to (same_test σ.relabelling.to σ.relabelling.from σ.relabelling.from-to) y q ∙ b;
 }
@@ -158,19 +160,19 @@ pub gluing : Gluing
 gluing D valid τ c i part p = (
   s,
   record {
-    on_part = λ x h. is x ∙ ap (λ t. cond t (τ.relabelling.to x) (cond (is_issued x (map τ.relabelling.to part)) (τ.relabelling.from x) x)) (is_issued_from_in x part h);
-    on_image = λ x n h. is x ∙ (λ k. cond (is_issued_from_not_in x part n k) (τ.relabelling.to x) (cond (is_issued_from_in x (map τ.relabelling.to part) h k) (τ.relabelling.from x) x));
-    elsewhere = λ x n m. is x ∙ (λ k. cond (is_issued_from_not_in x part n k) (τ.relabelling.to x) (cond (is_issued_from_not_in x (map τ.relabelling.to part) m k) (τ.relabelling.from x) x));
+    on_part = λ x h. is x ∙ ap (λ t. cond t (τ.relabelling.to x) (cond (is_issued x (map τ.relabelling.to part)) (τ.relabelling.from x) x)) (is_issued-from_In x part h);
+    on_image = λ x n h. is x ∙ (λ k. cond (is_issued-from_not_In x part n k) (τ.relabelling.to x) (cond (is_issued-from_In x (map τ.relabelling.to part) h k) (τ.relabelling.from x) x));
+    elsewhere = λ x n m. is x ∙ (λ k. cond (is_issued-from_not_In x part n k) (τ.relabelling.to x) (cond (is_issued-from_not_In x (map τ.relabelling.to part) m k) (τ.relabelling.from x) x));
   },
 )
   where
     off : (xs : List ℕ) → ((x : ℕ) → In x part → ¬ (In x xs)) → (x : ℕ) → is_issued x part ≡ true → is_issued x xs ≡ false
-    off xs f x h = is_issued_from_not_in x xs (f x (in_from_is_issued x part h))
+    off xs f x h = is_issued-from_not_In x xs (f x (In-from_is_issued x part h))
 
     closed : (x y : ℕ) → is_issued x part ≡ true → ShareQuad D x y → (is_issued y part ≡ true) ⊎ ((is_issued y c ≡ true) ⊎ (is_issued y i ≡ true))
-    closed x y h q = elim (p.closed x y (in_from_is_issued x part h) q) [
-      | inl a ↦ inl (is_issued_from_in y part a)
-      | inr a ↦ elim a [ inl b ↦ inr (inl (is_issued_from_in y c b)) | inr b ↦ inr (inr (is_issued_from_in y i b)) ]
+    closed x y h q = elim (p.closed x y (In-from_is_issued x part h) q) [
+      | inl a ↦ inl (is_issued-from_In y part a)
+      | inr a ↦ elim a [ inl b ↦ inr (inl (is_issued-from_In y c b)) | inr b ↦ inr (inr (is_issued-from_In y i b)) ]
     ]
 
     same : (s t : Bool) → (s ≡ true → t ≡ true) → (t ≡ true → s ≡ true) → s ≡ t
@@ -181,16 +183,16 @@ gluing D valid τ c i part p = (
     shape : ((x : ℕ) → is_issued x (map τ.relabelling.to part) ≡ is_issued x part) ⊎ ((i ≡ []) × ((x : ℕ) → is_issued x part ≡ true → is_issued x (map τ.relabelling.to part) ≡ false))
     shape = elim p.carried [
       | inl a ↦ inl (λ x. same (is_issued x (map τ.relabelling.to part)) (is_issued x part)
-          (λ h. is_issued_from_in x part ((a x).0 (in_from_is_issued x (map τ.relabelling.to part) h)))
-          (λ h. is_issued_from_in x (map τ.relabelling.to part) ((a x).1 (in_from_is_issued x part h))))
+          (λ h. is_issued-from_In x part ((a x).0 (In-from_is_issued x (map τ.relabelling.to part) h)))
+          (λ h. is_issued-from_In x (map τ.relabelling.to part) ((a x).1 (In-from_is_issued x part h))))
       | inr a ↦ inr (a.0, off (map τ.relabelling.to part) a.1)
     ]
 
     keeps_c : Keeps τ.relabelling.to c
-    keeps_c x h = p.fixes_canonical x (in_from_is_issued x c h)
+    keeps_c x h = p.fixes_canonical x (In-from_is_issued x c h)
 
     keeps_i : Keeps τ.relabelling.to i
-    keeps_i x h = p.fixes_passed x (in_from_is_issued x i h)
+    keeps_i x h = p.fixes_passed x (In-from_is_issued x i h)
 
     s : Symmetry D
     s = glued_symmetry D (are_quads D valid) τ c i part keeps_c keeps_i (off c p.outside_canonical) (off i p.outside_passed) closed shape

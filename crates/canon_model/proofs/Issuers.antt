@@ -20,36 +20,36 @@ Keeps σ xs = (x : ℕ) → is_issued x xs ≡ true → σ x ≡ x
 
 -- ---- the test and membership
 
-pub in_from_is_issued : (x : ℕ) (xs : List ℕ) → is_issued x xs ≡ true → In x xs
-in_from_is_issued x [] h = true≢false (sym h)
-in_from_is_issued x (y ∷ xs) h = by (or_cases (eqb y x) (is_issued x xs) h) (in_from_is_issued x xs)
+pub In-from_is_issued : (x : ℕ) (xs : List ℕ) → is_issued x xs ≡ true → In x xs
+In-from_is_issued x [] h = true≢false (sym h)
+In-from_is_issued x (y ∷ xs) h = by (or_cases (eqb y x) (is_issued x xs) h) (In-from_is_issued x xs)
   where
     by : (eqb y x ≡ true) ⊎ (is_issued x xs ≡ true) → (is_issued x xs ≡ true → In x xs) → (x ≡ y) ⊎ In x xs
     by (inl e) f = inl (sym (eqb-true y x e))
     by (inr e) f = inr (f e)
 
-pub is_issued_from_in : (x : ℕ) (xs : List ℕ) → In x xs → is_issued x xs ≡ true
-is_issued_from_in x [] h = absurd h
-is_issued_from_in x (y ∷ xs) (inl e) = or_left (eqb y x) (is_issued x xs) (eq-eqb y x (sym e))
-is_issued_from_in x (y ∷ xs) (inr h) = or_right (eqb y x) (is_issued x xs) (is_issued_from_in x xs h)
+pub is_issued-from_In : (x : ℕ) (xs : List ℕ) → In x xs → is_issued x xs ≡ true
+is_issued-from_In x [] h = absurd h
+is_issued-from_In x (y ∷ xs) (inl e) = or_left (eqb y x) (is_issued x xs) (eq-eqb y x (sym e))
+is_issued-from_In x (y ∷ xs) (inr h) = or_right (eqb y x) (is_issued x xs) (is_issued-from_In x xs h)
 
-pub not_in_from_is_issued : (x : ℕ) (xs : List ℕ) → is_issued x xs ≡ false → ¬ (In x xs)
-not_in_from_is_issued x xs e h = true≢false (sym (is_issued_from_in x xs h) ∙ e)
+pub not_In-from_is_issued : (x : ℕ) (xs : List ℕ) → is_issued x xs ≡ false → ¬ (In x xs)
+not_In-from_is_issued x xs e h = true≢false (sym (is_issued-from_In x xs h) ∙ e)
 
-pub is_issued_from_not_in : (x : ℕ) (xs : List ℕ) → ¬ (In x xs) → is_issued x xs ≡ false
-is_issued_from_not_in x xs n = by (is_issued x xs) refl
+pub is_issued-from_not_In : (x : ℕ) (xs : List ℕ) → ¬ (In x xs) → is_issued x xs ≡ false
+is_issued-from_not_In x xs n = by (is_issued x xs) refl
   where
     by : (t : Bool) → is_issued x xs ≡ t → t ≡ false
-    by true e = absurd (n (in_from_is_issued x xs e))
+    by true e = absurd (n (In-from_is_issued x xs e))
     by false e = refl
 
 pub are_once_from_distinct : (xs : List ℕ) → AreDistinct xs → AreOnce xs
 are_once_from_distinct [] d = tt
-are_once_from_distinct (x ∷ xs) d = (is_issued_from_not_in x xs d.0, are_once_from_distinct xs d.1)
+are_once_from_distinct (x ∷ xs) d = (is_issued-from_not_In x xs d.0, are_once_from_distinct xs d.1)
 
 pub are_distinct_from_once : (xs : List ℕ) → AreOnce xs → AreDistinct xs
 are_distinct_from_once [] d = tt
-are_distinct_from_once (x ∷ xs) d = (not_in_from_is_issued x xs d.0, are_distinct_from_once xs d.1)
+are_distinct_from_once (x ∷ xs) d = (not_In-from_is_issued x xs d.0, are_distinct_from_once xs d.1)
 
 -- ---- has
 

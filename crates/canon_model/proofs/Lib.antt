@@ -1,6 +1,4 @@
 mod Order
-mod Permutations
-mod Sorting
 mod Maps
 mod Relabel
 mod RelabelGroups

@@ -1,33 +1,34 @@
 -- A bijection that agrees on each quad with some symmetry is a symmetry.
 use Rattle.std.proofs.Common.{Bool, List, None, Option, Some, [], ap, eq-eqb, eqb, eqb-true, false, inl, inr, length, map, refl, subst, suc, sym, true, true≢false, ℕ, ◌||◌, ◌∙◌, ◌∷◌, ◌≡◌, ◌⊎◌}
 use Rattle.std.proofs.lemmas.Bool.{or_cases, or_left, or_right}
+use Rattle.rdf_terms.proofs.Membership.{In-map, from_In-map}
+use Rattle.rdf_terms.proofs.Permutations.{In-Permutes, Permutes-from_equal, Permutes-sym, length-Permutes}
 use Rattle.rdf_terms.specs.Dataset.{Dataset, IsValid, is_named_by, is_node, mentions}
+use Rattle.rdf_terms.specs.Document.{statements}
 use Rattle.rdf_terms.specs.Isomorphism.{Carries, Relabelling, Symmetry, relabel_graph_name, relabel_statement, relabel_term}
 use Rattle.rdf_terms.specs.Lists.{AreDistinct, In, Permutes, permutes_cons, permutes_nil, permutes_swap, permutes_trans}
 use Rattle.rdf_terms.specs.Terms.{IsIri, IsValidStatement, Statement}
 use Rattle.rdf_terms.specs.declared.term.Term.{Term}
 use Rattle.rdf_terms.specs.declared.term.Term.TheVariants.{Blank, Iri, Literal}
 use Rattle.canon_model.specs.Issuer.{is_issued}
-use Rattle.canon_model.proofs.Equivariance.{distinct_map, relabel_statement-back}
+use Rattle.canon_model.proofs.Equivariance.{AreDistinct-map, relabel_statement-back}
 use Rattle.canon_model.proofs.Maps.{length-map}
-use Rattle.canon_model.proofs.Membership.{in_map, in_map_from, in_permutes}
-use Rattle.canon_model.proofs.Permutations.{permutes_equal, permutes_length, permutes_sym}
 use Rattle.canon_model.proofs.Totality.{all_in}
 
 -- ---- as many, and all of them there
 
 in_split : {A : Type 0} (x : A) (ys : List A) → In x ys → (zs : List A) × Permutes ys (x ∷ zs)
 in_split x [] h = absurd h
-in_split x (y ∷ ys) (inl e) = (ys, permutes_equal (ap (λ w. w ∷ ys) (sym e)))
+in_split x (y ∷ ys) (inl e) = (ys, Permutes-from_equal (ap (λ w. w ∷ ys) (sym e)))
 in_split x (y ∷ ys) (inr h) = let r = in_split x ys h in (y ∷ r.0, permutes_trans (permutes_cons r.1) permutes_swap)
 
-pub permutes_from_subset : {A : Type 0} (xs ys : List A) → AreDistinct xs → length xs ≡ length ys → ((x : A) → In x xs → In x ys) → Permutes xs ys
-permutes_from_subset [] [] d e f = permutes_nil
-permutes_from_subset [] (y ∷ ys) d e f = cc
-permutes_from_subset {A} (x ∷ xs) ys d e f =
+pub Permutes-from_subset : {A : Type 0} (xs ys : List A) → AreDistinct xs → length xs ≡ length ys → ((x : A) → In x xs → In x ys) → Permutes xs ys
+Permutes-from_subset [] [] d e f = permutes_nil
+Permutes-from_subset [] (y ∷ ys) d e f = cc
+Permutes-from_subset {A} (x ∷ xs) ys d e f =
     let r = in_split x ys (f x (inl refl)) in
-    let l : length xs ≡ length r.0 = less _ _ (e ∙ permutes_length r.1) in
-    permutes_trans (permutes_cons (permutes_from_subset xs r.0 d.1 l (λ z h. other r.0 z h (in_permutes z r.1 (f z (inr h)))))) (permutes_sym r.1)
+    let l : length xs ≡ length r.0 = less _ _ (e ∙ length-Permutes r.1) in
+    permutes_trans (permutes_cons (Permutes-from_subset xs r.0 d.1 l (λ z h. other r.0 z h (In-Permutes z r.1 (f z (inr h)))))) (Permutes-sym r.1)
   where
     less : (m n : ℕ) → suc m ≡ suc n → m ≡ n
     less m n e = cc
@@ -73,14 +74,14 @@ pub carries_locally : (D : Dataset) → AreQuads D → (σ : Relabelling D.nodes
     → ((q : Statement) → In q D.statements → (τ : Symmetry D) × ((x : ℕ) → mentions x q ≡ true → σ.to x ≡ τ.relabelling.to x)) → Carries σ.to D D
 carries_locally D d σ f = record {
   nodes = refl;
-  statements = permutes_from_subset (map (relabel_statement σ.to) D.statements) D.statements (distinct_map (relabel_statement σ.to) (relabel_statement σ.from) (relabel_statement-back σ.from σ.to σ.from-to) D.statements d.distinct) (length-map (relabel_statement σ.to) D.statements) there;
+  statements = Permutes-from_subset (map (relabel_statement σ.to) D.statements) D.statements (AreDistinct-map (relabel_statement σ.to) (relabel_statement σ.from) (relabel_statement-back σ.from σ.to σ.from-to) D.statements d.distinct) (length-map (relabel_statement σ.to) D.statements) there;
 }
   where
     there : (p : Statement) → In p (map (relabel_statement σ.to) D.statements) → In p D.statements
     there p h =
-        let r = in_map_from (relabel_statement σ.to) p D.statements h in
+        let r = from_In-map (relabel_statement σ.to) D.statements p h in
         let t = f r.0 r.1 in
-        subst (λ w. In w D.statements) (sym (r.2 ∙ quad_agree σ.to t.0.relabelling.to r.0 (d.predicates r.0 r.1) t.1)) (in_permutes (relabel_statement t.0.relabelling.to r.0) t.0.keeps.statements (in_map (relabel_statement t.0.relabelling.to) r.0 D.statements r.1))
+        subst (λ w. In w D.statements) (sym (r.2 ∙ quad_agree σ.to t.0.relabelling.to r.0 (d.predicates r.0 r.1) t.1)) (In-Permutes (relabel_statement t.0.relabelling.to r.0) t.0.keeps.statements (In-map (relabel_statement t.0.relabelling.to) D.statements r.0 r.1))
 
 -- a quad mentions a node of the list, or none
 term_cases : (a : List ℕ) (t : Term) → ((x : ℕ) × (is_node x t ≡ true) × (is_issued x a ≡ true)) ⊎ ((x : ℕ) → is_node x t ≡ true → is_issued x a ≡ false)

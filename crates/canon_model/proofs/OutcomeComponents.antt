@@ -1,6 +1,7 @@
 -- The issuer that the call of a start node returns is a component: the nodes that hang together with it over nodes without a canonical identifier.
 use Rattle.std.proofs.Common.{List, [], false, inl, refl, subst, suc, sym, true, ℕ, ◌<◌, ◌∷◌, ◌≡◌}
 use Rattle.rdf_terms.specs.Dataset.{Dataset}
+use Rattle.rdf_terms.specs.Document.{statement}
 use Rattle.rdf_terms.specs.Lists.{Text}
 use Rattle.canon_model.specs.Coverage.{Reached, ShareQuad, begin, onward}
 use Rattle.canon_model.specs.Issuer.{is_issued}
@@ -8,7 +9,7 @@ use Rattle.canon_model.specs.Outcome.{HashNDegreeQuads}
 use Rattle.canon_model.specs.Profile.{Profile}
 use Rattle.canon_model.proofs.Components.{IsComponent}
 use Rattle.canon_model.proofs.Coverage.{component, reached_free}
-use Rattle.canon_model.proofs.Issuers.{is_issued_from_not_in}
+use Rattle.canon_model.proofs.Issuers.{is_issued-from_not_In}
 use Rattle.canon_model.proofs.LocalSymmetry.{AreQuads}
 use Rattle.canon_model.proofs.OutcomesGrow.{n_degree_within-grows}
 use Rattle.canon_model.proofs.Totality.{MentionsNodes}
@@ -20,7 +21,7 @@ module _ (ρ : Profile) (D : Dataset) (nodes : MentionsNodes D) (quads : AreQuad
   pub component_of_outcome : (x : ℕ) (h : Text) (j : List ℕ) → HashNDegreeQuads ρ D c x (x ∷ []) h j → IsComponent D quads c x j
   component_of_outcome x h j w = record {
     distinct = (n_degree_within-grows c ρ D (suc D.nodes) x (x ∷ []) h j (refl, tt) w.outcome).1;
-    start = from x (begin refl (is_issued_from_not_in x c (λ i. w.valid.apart x i (inl refl))) refl);
+    start = from x (begin refl (is_issued-from_not_In x c (λ i. w.valid.apart x i (inl refl))) refl);
     free = λ y g. (reached_free D c [] (λ z. z ≡ x) (to y g)).0;
     below = λ y g. below (to y g);
     closed = λ y g f z s k. from z (onward (to y g) s k refl);
@@ -31,7 +32,7 @@ module _ (ρ : Profile) (D : Dataset) (nodes : MentionsNodes D) (quads : AreQuad
       low = w.valid.temporary_nodes x (inl refl)
 
       free : is_issued x c ≡ false
-      free = is_issued_from_not_in x c (λ i. w.valid.apart x i (inl refl))
+      free = is_issued-from_not_In x c (λ i. w.valid.apart x i (inl refl))
 
       to : (y : ℕ) → is_issued y j ≡ true → Reached D c [] (λ z. z ≡ x) y
       to y g = (component D c ρ (suc D.nodes) x h j free w.outcome y).0 g

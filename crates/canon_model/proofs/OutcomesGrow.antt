@@ -7,7 +7,6 @@ use Rattle.canon_model.specs.Outcome.{ChosenPath, DataToHash, NDegreeWithin}
 use Rattle.canon_model.specs.Profile.{Profile}
 use Rattle.canon_model.specs.Walk.{CallRelation, PermutationPath, RecursionResults, issuer_copy_after, recursion_list}
 use Rattle.canon_model.proofs.Issuers.{AreOnce, Grows, begins_refl, grows_trans, issuer_copy_after-grows}
-use Rattle.canon_model.proofs.Order.{R}
 
 module _ (c : List ℕ) where
   abbrev pub AllGrow : CallRelation → Type 0

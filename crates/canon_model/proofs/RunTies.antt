@@ -2,6 +2,8 @@
 use Rattle.std.proofs.Common.{Bool, List, [], ap, cond, false, inl, inr, map, refl, subst, sym, true, true≢false, ℕ, ◌++◌, ◌↔◌, ◌∙◌, ◌∷◌, ◌≡◌, ◌⊎◌}
 use Rattle.std.specs.Cmp.Lexicographic.{bytes_decides}
 use Rattle.std.specs.Str.{bytes_eq}
+use Rattle.rdf_terms.proofs.Membership.{from_In-map}
+use Rattle.rdf_terms.proofs.Permutations.{In-Permutes, Permutes-sym}
 use Rattle.rdf_terms.specs.Dataset.{Dataset, IsValid}
 use Rattle.rdf_terms.specs.Lists.{In, Text}
 use Rattle.canon_model.specs.Allowed.{HashPathResult, first_degree_hashes, issue_results, issued_for_unique_hashes, unissued_nodes}
@@ -15,11 +17,9 @@ use Rattle.canon_model.proofs.CallTies.{AreTies, are_ties-append, are_ties-none,
 use Rattle.canon_model.proofs.CanonicalLists.{AreCanonical, unique_hashes-canonical, valid_start}
 use Rattle.canon_model.proofs.Components.{IsComponent}
 use Rattle.canon_model.proofs.CountedAllowed.{counted_results-canonical, outcome_of_start}
-use Rattle.canon_model.proofs.Issuers.{are_distinct_from_once, in_from_is_issued, is_issued_from_in, not_in_from_is_issued}
+use Rattle.canon_model.proofs.Issuers.{In-from_is_issued, are_distinct_from_once, is_issued-from_In, not_In-from_is_issued}
 use Rattle.canon_model.proofs.LocalSymmetry.{are_quads}
-use Rattle.canon_model.proofs.Membership.{in_map_from, in_permutes}
 use Rattle.canon_model.proofs.OutcomeComponents.{component_of_outcome}
-use Rattle.canon_model.proofs.Permutations.{permutes_sym}
 use Rattle.canon_model.proofs.SortedResults.{sort_results-permutes}
 use Rattle.canon_model.proofs.StartNodes.{unissued_node}
 use Rattle.canon_model.proofs.Totality.{mentions_nodes}
@@ -34,7 +34,7 @@ module _ (ρ : Profile) (D : Dataset) (valid : IsValid D) where
     starts-ties (x ∷ xs) sub = are_ties-append ρ D (counted_start ρ D c x).trace.ties _ (start-ties x (sub x (inl refl))) (starts-ties xs (λ y g. sub y (inr g)))
 
     from_start : (r : HashPathResult) → In r (counted_results ρ D c h) → (x : ℕ) × In x (unissued_nodes ρ D c h) × (r ≡ result_of ρ D c x)
-    from_start r i = in_map_from (result_of ρ D c) r (unissued_nodes ρ D c h) (in_permutes r (permutes_sym (sort_results-permutes (map (result_of ρ D c) (unissued_nodes ρ D c h)))) i)
+    from_start r i = from_In-map (result_of ρ D c) (unissued_nodes ρ D c h) r (In-Permutes r (Permutes-sym (sort_results-permutes (map (result_of ρ D c) (unissued_nodes ρ D c h)))) i)
 
     start-component : (x : ℕ) → In x (unissued_nodes ρ D c h) → IsComponent D (are_quads D valid) c x (result_of ρ D c x).issuer
     start-component x i = component_of_outcome ρ D (mentions_nodes D valid) (are_quads D valid) c x (result_of ρ D c x).hash (result_of ρ D c x).issuer (outcome_of_start ρ D valid c k h x i)
@@ -45,10 +45,10 @@ module _ (ρ : Profile) (D : Dataset) (valid : IsValid D) where
       where
         by : (t : Bool) → is_issued y l ≡ t → ((z : ℕ) → (In z l ↔ In z m)) ⊎ ((z : ℕ) → In z l → ¬ (In z m))
         by true g = inl (λ z. (
-          λ a. in_from_is_issued z m (p.whole m q.closed y z g (is_issued_from_in z l a) q.start),
-          λ a. in_from_is_issued z l (q.whole l p.closed y z q.start (is_issued_from_in z m a) g),
+          λ a. In-from_is_issued z m (p.whole m q.closed y z g (is_issued-from_In z l a) q.start),
+          λ a. In-from_is_issued z l (q.whole l p.closed y z q.start (is_issued-from_In z m a) g),
         ))
-        by false g = inr (λ z a b. true≢false (sym (q.whole l p.closed z y (is_issued_from_in z m b) q.start (is_issued_from_in z l a)) ∙ g))
+        by false g = inr (λ z a b. true≢false (sym (q.whole l p.closed z y (is_issued-from_In z m b) q.start (is_issued-from_In z l a)) ∙ g))
 
     pair-tie : (x y : ℕ) → In x (unissued_nodes ρ D c h) → In y (unissued_nodes ρ D c h) → (result_of ρ D c x).hash ≡ (result_of ρ D c y).hash → IsTie ρ D (record { canonical = c; passed = []; left = (result_of ρ D c x).issuer; right = (result_of ρ D c y).issuer })
     pair-tie x y i j e =
@@ -65,12 +65,12 @@ module _ (ρ : Profile) (D : Dataset) (valid : IsValid D) where
             right_outcome = subst (λ w. HashNDegreeQuads ρ D c y (y ∷ []) w (result_of ρ D c y).issuer) (sym e) (outcome_of_start ρ D valid c k h y j);
           });
           may_be_exchanged = record {
-            left_nodes = λ z a. p.below z (is_issued_from_in z (result_of ρ D c x).issuer a);
-            right_nodes = λ z a. q.below z (is_issued_from_in z (result_of ρ D c y).issuer a);
+            left_nodes = λ z a. p.below z (is_issued-from_In z (result_of ρ D c x).issuer a);
+            right_nodes = λ z a. q.below z (is_issued-from_In z (result_of ρ D c y).issuer a);
             left_once = are_distinct_from_once (result_of ρ D c x).issuer p.distinct;
             right_once = are_distinct_from_once (result_of ρ D c y).issuer q.distinct;
-            left_apart = λ z a. not_in_from_is_issued z c (p.free z (is_issued_from_in z (result_of ρ D c x).issuer a));
-            right_apart = λ z a. not_in_from_is_issued z c (q.free z (is_issued_from_in z (result_of ρ D c y).issuer a));
+            left_apart = λ z a. not_In-from_is_issued z c (p.free z (is_issued-from_In z (result_of ρ D c x).issuer a));
+            right_apart = λ z a. not_In-from_is_issued z c (q.free z (is_issued-from_In z (result_of ρ D c y).issuer a));
             left_tail = (result_of ρ D c x).issuer;
             right_tail = (result_of ρ D c y).issuer;
             left_is = refl;

@@ -1,6 +1,8 @@
 -- Symmetries: the identity, one after another, and back.
 use Rattle.std.proofs.Common.{List, None, Option, Some, ap, map, refl, sym, true, ℕ, ◌∙◌, ◌≡◌}
+use Rattle.rdf_terms.proofs.Permutations.{Permutes-from_equal, Permutes-map}
 use Rattle.rdf_terms.specs.Dataset.{Dataset}
+use Rattle.rdf_terms.specs.Document.{statements}
 use Rattle.rdf_terms.specs.Isomorphism.{Symmetry, relabel_graph_name, relabel_statement, relabel_term}
 use Rattle.rdf_terms.specs.Lists.{permutes_trans}
 use Rattle.rdf_terms.specs.Terms.{Statement}
@@ -10,9 +12,8 @@ use Rattle.canon_model.specs.Issuer.{is_issued}
 use Rattle.canon_model.specs.Ties.{IsJoined, exchange}
 use Rattle.canon_model.proofs.Equivariance.{back_relabelling, carries_back, relabel_statement-back}
 use Rattle.canon_model.proofs.Exchange.{exchange-fixes, exchange-map}
-use Rattle.canon_model.proofs.Issuers.{Grows, Keeps, in_from_is_issued}
+use Rattle.canon_model.proofs.Issuers.{Grows, In-from_is_issued, Keeps}
 use Rattle.canon_model.proofs.Maps.{map-map, map_agree, map_identity}
-use Rattle.canon_model.proofs.Permutations.{permutes_equal, permutes_map}
 
 relabel_term-two : (σ τ : ℕ → ℕ) (t : Term) → relabel_term (λ x. σ (τ x)) t ≡ relabel_term σ (relabel_term τ t)
 relabel_term-two σ τ (Iri t) = refl
@@ -33,7 +34,7 @@ module _ (D : Dataset) where
   abbrev pub identity_symmetry : Symmetry D
   identity_symmetry = record {
     relabelling = record { to = λ x. x; from = λ x. x; from-to = λ x. refl; to-from = λ x. refl; to_node = λ x h. h; from_node = λ x h. h };
-    keeps = record { nodes = refl; statements = permutes_equal (map_identity (relabel_statement (λ x. x)) relabel_statement-identity D.statements) };
+    keeps = record { nodes = refl; statements = Permutes-from_equal (map_identity (relabel_statement (λ x. x)) relabel_statement-identity D.statements) };
   }
 
   abbrev pub composed_symmetry : Symmetry D → Symmetry D → Symmetry D
@@ -48,8 +49,8 @@ module _ (D : Dataset) where
     };
     keeps = record {
       nodes = refl;
-      statements = permutes_trans (permutes_equal (map_agree _ _ (relabel_statement-two s.relabelling.to t.relabelling.to) D.statements ∙ sym (map-map (relabel_statement s.relabelling.to) (relabel_statement t.relabelling.to) D.statements)))
-          (permutes_trans (permutes_map (relabel_statement s.relabelling.to) t.keeps.statements) s.keeps.statements);
+      statements = permutes_trans (Permutes-from_equal (map_agree _ _ (relabel_statement-two s.relabelling.to t.relabelling.to) D.statements ∙ sym (map-map (relabel_statement s.relabelling.to) (relabel_statement t.relabelling.to) D.statements)))
+          (permutes_trans (Permutes-map (relabel_statement s.relabelling.to) t.keeps.statements) s.keeps.statements);
     };
   }
 
@@ -90,7 +91,7 @@ module _ (D : Dataset) where
   pub joined-linked : (c i l m : List ℕ) → Grows i l → Grows i m → IsJoined D c l m → Linked c i l m
   joined-linked c i l m g h j = record {
     s = j.symmetry;
-    canon = λ x e. j.is_exchange x ∙ j.fixes_canonical x (in_from_is_issued x c e);
+    canon = λ x e. j.is_exchange x ∙ j.fixes_canonical x (In-from_is_issued x c e);
     begun = λ x e. j.is_exchange x ∙ exchange-fixes i l m g.0 h.0 x e;
     is = sym (map_agree j.symmetry.relabelling.to (exchange l m) j.is_exchange l ∙ exchange-map l m g.1 j.as_long);
   }

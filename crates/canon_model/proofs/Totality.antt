@@ -1,6 +1,7 @@
 -- Every valid call has an outcome: that of the counted run.
 use Rattle.std.proofs.Common.{All, Bool, IfSome, List, None, Option, Some, [], arith, eqb-true, false, inl, inr, length, refl, subst, suc, sym, true, true≢false, zero, ℕ, ◌+◌, ◌<◌, ◌||◌, ◌∷◌, ◌≡◌, ◌⊎◌}
 use Rattle.std.proofs.lemmas.Bool.{or_cases}
+use Rattle.rdf_terms.proofs.Permutations.{In-Permutes, Permutes-refl, Permutes-sym}
 use Rattle.rdf_terms.specs.Dataset.{Dataset, IsValid, is_named_by, is_node, mentions}
 use Rattle.rdf_terms.specs.Lists.{In, Text}
 use Rattle.rdf_terms.specs.Terms.{IsValidStatement, IsValidTerm, Statement}
@@ -17,11 +18,9 @@ use Rattle.canon_model.specs.Profile.{Profile}
 use Rattle.canon_model.specs.Walk.{CallRelation, RecursionResults, issuer_copy_after, recursion_list}
 use Rattle.canon_model.proofs.CountedGrows.{counted_call-grows, counted_permutations-grows}
 use Rattle.canon_model.proofs.CountedPaths.{chosen_path-counted, counted_permutations-kept, full_issuer, full_path, none_kept}
-use Rattle.canon_model.proofs.Coverage.{AllCover, CallCovers, in_recursion_list_from, issuer_copy_after-issued, issuer_copy_after-new, n_degree_within-covers, permutation_path-coverage, reached_free}
-use Rattle.canon_model.proofs.Issuers.{AreOnce, Grows, are_once_from_distinct, begins_refl, in_from_is_issued, is_issued-begins, is_issued_from_in, is_issued_from_not_in, issuer_copy_after-grows, not_in_from_is_issued}
-use Rattle.canon_model.proofs.Membership.{in_permutes}
-use Rattle.canon_model.proofs.Neighbours.{in_blank_node_list_from}
-use Rattle.canon_model.proofs.Permutations.{permutes_refl, permutes_sym}
+use Rattle.canon_model.proofs.Coverage.{AllCover, CallCovers, from_In-recursion_list, issuer_copy_after-issued, issuer_copy_after-new, n_degree_within-covers, permutation_path-coverage, reached_free}
+use Rattle.canon_model.proofs.Issuers.{AreOnce, Grows, In-from_is_issued, are_once_from_distinct, begins_refl, is_issued-begins, is_issued-from_In, is_issued-from_not_In, issuer_copy_after-grows, not_In-from_is_issued}
+use Rattle.canon_model.proofs.Neighbours.{from_In-blank_node_list}
 use Rattle.canon_model.proofs.Pigeonhole.{are_once-length, begins-length, begins-length_new}
 
 -- every blank node of a quad is a node of the dataset
@@ -67,10 +66,10 @@ module _ (ρ : Profile) (D : Dataset) (c : List ℕ) (nodes : MentionsNodes D) w
   fits_after_path k i p j low g cov f = fits_more k i (λ y. In y p) j low g sound f
     where
       sound : (x : ℕ) → is_issued x j ≡ true → is_issued x i ≡ false → Reached D c i (λ y. In y p) x
-      sound x h e = by ((cov.nodes x).0 (in_from_is_issued x j h))
+      sound x h e = by ((cov.nodes x).0 (In-from_is_issued x j h))
         where
           by : In x i ⊎ Reached D c i (λ y. In y p) x → Reached D c i (λ y. In y p) x
-          by (inl a) = absurd (not_in_from_is_issued x i e a)
+          by (inl a) = absurd (not_In-from_is_issued x i e a)
           by (inr a) = a
 
   -- each call of the recursion list is begun with a node more
@@ -80,7 +79,7 @@ module _ (ρ : Profile) (D : Dataset) (c : List ℕ) (nodes : MentionsNodes D) w
     below = λ x e. below x e (is_issued x i) refl;
     apart = λ x e. apart x e (is_issued x i) refl;
     room =
-        let q = in_recursion_list_from D c i p m h in
+        let q = from_In-recursion_list D c i p m h in
         let l = begins-length_new i (issuer_copy_after c i p) m g.0 q.2 (issuer_copy_after-issued D c i p m q.0 q.1) in
         let r = f.room in
         omega arith;
@@ -120,11 +119,11 @@ module _ (ρ : Profile) (D : Dataset) (c : List ℕ) (nodes : MentionsNodes D) w
         }
 
     pub permutation_path-counted : (i p : List ℕ) → Fits (suc k) i → ((x : ℕ) → In x p → x < D.nodes) → RecursionResults S c (recursion_list c i p) (issuer_copy_after c i p) (full_path (counted_call_within k ρ D c) c (issuer_copy_after c i p) (recursion_list c i p)) (full_issuer (counted_call_within k ρ D c) c (issuer_copy_after c i p) (recursion_list c i p))
-    permutation_path-counted i p f low = recursion_results-counted (recursion_list c i p) (issuer_copy_after c i p) (fits_recursion k i p f low) (λ m h. let q = in_recursion_list_from D c i p m h in issuer_copy_after-issued D c i p m q.0 q.1)
+    permutation_path-counted i p f low = recursion_results-counted (recursion_list c i p) (issuer_copy_after c i p) (fits_recursion k i p f low) (λ m h. let q = from_In-recursion_list D c i p m h in issuer_copy_after-issued D c i p m q.0 q.1)
 
     pub group-counted : (bg i : List ℕ) → Fits (suc k) i → ((x : ℕ) → In x bg → x < D.nodes) → let t = counted_permutations (counted_call_within k ρ D c) None c i (arrangements bg) in ChosenPath S c bg i (path_or_none t.value) (issuer_or t.value i)
     group-counted bg i f low =
-        chosen_path-counted (counted_call_within k ρ D c) c S bg i (λ p h. permutation_path-counted i p f (λ x a. low x (in_permutes x (permutes_sym h) a))) bg (permutes_refl bg)
+        chosen_path-counted (counted_call_within k ρ D c) c S bg i (λ p h. permutation_path-counted i p f (λ x a. low x (In-Permutes x (Permutes-sym h) a))) bg (Permutes-refl bg)
         (counted_permutations (counted_call_within k ρ D c) None c i (arrangements bg)).value
         (counted_permutations-kept (counted_call_within k ρ D c) c i None (λ q. ⊥) (arrangements bg) (none_kept (counted_call_within k ρ D c) c i))
 
@@ -132,7 +131,7 @@ module _ (ρ : Profile) (D : Dataset) (c : List ℕ) (nodes : MentionsNodes D) w
     fits_counted_group bg i f low =
         let j = issuer_or (counted_permutations (counted_call_within k ρ D c) None c i (arrangements bg)).value i in
         let w = group-counted bg i f low in
-        fits_after_path (suc k) i w.chosen j (λ x a. low x (in_permutes x (permutes_sym w.is_least.permutes) a))
+        fits_after_path (suc k) i w.chosen j (λ x a. low x (In-Permutes x (Permutes-sym w.is_least.permutes) a))
         (counted_permutations-grows c (counted_call_within k ρ D c) (counted_call-grows D c ρ k) None i (arrangements bg) f.distinct (begins_refl i, f.distinct))
         (subst (Covers D c i (λ y. In y w.chosen)) (sym w.issuer_is) (permutation_path-coverage D c S cover i w.chosen (w.paths.path w.chosen) (w.paths.issuer w.chosen) (w.paths.walks w.chosen w.is_least.permutes))) f
 
@@ -151,7 +150,7 @@ module _ (ρ : Profile) (D : Dataset) (c : List ℕ) (nodes : MentionsNodes D) w
         }
 
   pub nodes_of_groups : (i : List ℕ) (m : ℕ) (h : Text) (x : ℕ) → In x ((groups ρ D c i m).nodes h) → x < D.nodes
-  nodes_of_groups i m h x a = share_below m x (in_blank_node_list_from ρ D c i m h x a)
+  nodes_of_groups i m h x a = share_below m x (from_In-blank_node_list ρ D c i m h x a)
 
   pub n_degree_within-counted : (k m : ℕ) (i : List ℕ) → is_issued m i ≡ true → Fits k i → NDegreeWithin k ρ D c m i (counted_call_within k ρ D c m i).value.text (counted_call_within k ρ D c m i).value.issuer
   n_degree_within-counted zero m i hm f =
@@ -197,15 +196,15 @@ mentions_nodes D valid q h x m = by (or_cases (is_node x q.subject) (is_node x q
 pub fits_valid_call : (ρ : Profile) (D : Dataset) (c : List ℕ) (nodes : MentionsNodes D) (k n : ℕ) (i : List ℕ) → IsValidCall D c n i → D.nodes < k + length i → Fits ρ D c nodes k i
 fits_valid_call ρ D c nodes k n i v room = record {
   distinct = are_once_from_distinct i v.temporary_once;
-  below = λ x h. v.temporary_nodes x (in_from_is_issued x i h);
-  apart = λ x h. is_issued_from_not_in x c (λ g. v.apart x g (in_from_is_issued x i h));
+  below = λ x h. v.temporary_nodes x (In-from_is_issued x i h);
+  apart = λ x h. is_issued-from_not_In x c (λ g. v.apart x g (In-from_is_issued x i h));
   room = room;
 }
 
 pub counted_call_is_outcome : CountedCallIsOutcome
 counted_call_is_outcome ρ D c n i valid v = record {
   valid = v;
-  outcome = n_degree_within-counted ρ D c (mentions_nodes D valid) (suc D.nodes) n i (is_issued_from_in n i v.listed) (fits_valid_call ρ D c (mentions_nodes D valid) (suc D.nodes) n i v (omega arith));
+  outcome = n_degree_within-counted ρ D c (mentions_nodes D valid) (suc D.nodes) n i (is_issued-from_In n i v.listed) (fits_valid_call ρ D c (mentions_nodes D valid) (suc D.nodes) n i v (omega arith));
 }
 
 pub totality_of_calls : TotalityOfCalls

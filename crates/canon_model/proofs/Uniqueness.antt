@@ -2,6 +2,9 @@
 use Rattle.std.proofs.Common.{Bool, List, None, Option, Some, [], ap, append-nil, append_assoc, codes, cond, false, inl, inr, map, refl, subst, suc, sym, true, true≢false, zero, ℕ, ◌++◌, ◌∙◌, ◌∷◌, ◌≡◌, ◌⊎◌}
 use Rattle.std.specs.Cmp.Lexicographic.{bytes_decides}
 use Rattle.std.specs.Str.{bytes_eq}
+use Rattle.rdf_terms.proofs.Membership.{In-append, In-append_left, In-append_right, In-map}
+use Rattle.rdf_terms.proofs.Moving.{moved}
+use Rattle.rdf_terms.proofs.TextOrder.{is_before-asym, is_before-irrefl, same_from_neither_before}
 use Rattle.rdf_terms.specs.Dataset.{Dataset}
 use Rattle.rdf_terms.specs.Isomorphism.{Symmetry}
 use Rattle.rdf_terms.specs.Lists.{In, Permutes, Text, is_before, joined}
@@ -14,22 +17,21 @@ use Rattle.canon_model.specs.Outcome.{ChosenPath, DataToHash, NDegreeWithin}
 use Rattle.canon_model.specs.Profile.{Profile}
 use Rattle.canon_model.specs.Ties.{AreJoined, IsJoined}
 use Rattle.canon_model.specs.Walk.{CallRelation, PermutationPath, RecursionResults, issuer_copy_after, path_of_identifiers, path_of_result, recursion_list}
-use Rattle.canon_model.proofs.Arrangements.{in_arrangements, in_arrangements_from}
+use Rattle.canon_model.proofs.Arrangements.{In-arrangements, from_In-arrangements}
 use Rattle.canon_model.proofs.CountedGrows.{GrownFound, IsLater, counted_call-grows, counted_permutation-grows, counted_permutations-grows, is_skipped-later, skips-later}
 use Rattle.canon_model.proofs.Equivariance.{chosen_path-relabel, map_back, map_forth, n_degree_within-relabel, same_test}
-use Rattle.canon_model.proofs.Issuers.{AllIssued, AreOnce, Grows, Keeps, are_once_from_distinct, begins_refl, is_issued-begins, is_issued_from_in, issuer_copy_after-grows, map_fixed, recursion_list-issued}
+use Rattle.canon_model.proofs.Issuers.{AllIssued, AreOnce, Grows, Keeps, are_once_from_distinct, begins_refl, is_issued-begins, is_issued-from_In, issuer_copy_after-grows, map_fixed, recursion_list-issued}
 use Rattle.canon_model.proofs.Maps.{map-map}
-use Rattle.canon_model.proofs.Membership.{in_append_cases, in_append_left, in_append_right, in_map}
-use Rattle.canon_model.proofs.Order.{equal_from_neither, is_before_asym, is_before_self, not_before_lesser}
+use Rattle.canon_model.proofs.Order.{not_before-lesser}
 use Rattle.canon_model.proofs.Relabel.{label-relabel, related_entries-relabel}
 use Rattle.canon_model.proofs.RelabelGroups.{blank_node_list-relabel}
 use Rattle.canon_model.proofs.Symmetries.{Linked, composed_fixes, composed_symmetry, identity_symmetry, inverse_fixes, inverse_symmetry, joined-linked, linked_refl, linked_trans, linked_weaker}
 
 pub joined_left : (D : Dataset) (ts us : List Tie) → AreJoined D (ts ++ us) → AreJoined D ts
-joined_left D ts us j = λ t h. j t (in_append_left t ts us h)
+joined_left D ts us j = λ t h. j t (In-append_left ts us t h)
 
 pub joined_right : (D : Dataset) (ts us : List Tie) → AreJoined D (ts ++ us) → AreJoined D us
-joined_right D ts us j = λ t h. j t (in_append_right t ts us h)
+joined_right D ts us j = λ t h. j t (In-append_right ts us t h)
 
 module _ (D : Dataset) (c : List ℕ) where
   -- what a walk of the relation has in common with what the run found
@@ -123,32 +125,32 @@ module _ (D : Dataset) (c : List ℕ) where
 
     -- what the best so far says of the arrangements that were tried
     module _ (i : List ℕ) (path : List ℕ → Text) (out : List ℕ → List ℕ) where
-      record Held (b : Chosen) (P : List ℕ → Type 0) : Type 0 where
+      record HeldAlike (b : Chosen) (P : List ℕ → Type 0) : Type 0 where
         below : (p : List ℕ) → P p → is_before (path p) b.path ≡ false
         linked : (p : List ℕ) → P p → path p ≡ b.path → (l : List ℕ) × In l (b.issuer ∷ b.others) × Linked D c i l (out p)
         at : (p : List ℕ) × P p × (path p ≡ b.path)
         grown : (l : List ℕ) → In l (b.issuer ∷ b.others) → Grows i l
 
-      Kept : Option Chosen → (List ℕ → Type 0) → Type 0
-      Kept None P = (p : List ℕ) → P p → ⊥
-      Kept (Some b) P = Held b P
+      KeptAlike : Option Chosen → (List ℕ → Type 0) → Type 0
+      KeptAlike None P = (p : List ℕ) → P p → ⊥
+      KeptAlike (Some b) P = HeldAlike b P
 
-      More : (List ℕ → Type 0) → List ℕ → List ℕ → Type 0
-      More P p q = P q ⊎ (q ≡ p)
+      MoreAlike : (List ℕ → Type 0) → List ℕ → List ℕ → Type 0
+      MoreAlike P p q = P q ⊎ (q ≡ p)
 
       fresh_best : (P : List ℕ → Type 0) (p : List ℕ) (f : Outcome) → f.text ≡ path p → Linked D c i f.issuer (out p) → Grows i f.issuer
           → ((q : List ℕ) → P q → is_before (path q) f.text ≡ false) → ((q : List ℕ) → P q → path q ≡ f.text → ⊥)
-          → Held (record { path = f.text; issuer = f.issuer; others = [] }) (More P p)
-      unfolding More
+          → HeldAlike (record { path = f.text; issuer = f.issuer; others = [] }) (MoreAlike P p)
+      unfolding MoreAlike
       fresh_best P p f e l g below apart = record {
-        below = λ q. elim [ inl a ↦ below q a | inr a ↦ subst (λ w. is_before w f.text ≡ false) (e ∙ ap path (sym a)) (is_before_self f.text) ];
+        below = λ q. elim [ inl a ↦ below q a | inr a ↦ subst (λ w. is_before w f.text ≡ false) (e ∙ ap path (sym a)) (is_before-irrefl f.text) ];
         linked = λ q. elim [ inl a ↦ λ h. absurd (apart q a h) | inr a ↦ λ h. (f.issuer, inl refl, subst (λ w. Linked D c i f.issuer (out w)) (sym a) l) ];
         at = (p, inr refl, sym e);
         grown = λ k. elim [ inl a ↦ subst (Grows i) (sym a) g | inr a ↦ absurd a ];
       }
 
-      same_best : (b : Chosen) (P : List ℕ → Type 0) (p : List ℕ) → Held b P → is_before (path p) b.path ≡ false → (path p ≡ b.path → ⊥) → Held b (More P p)
-      unfolding More
+      same_best : (b : Chosen) (P : List ℕ → Type 0) (p : List ℕ) → HeldAlike b P → is_before (path p) b.path ≡ false → (path p ≡ b.path → ⊥) → HeldAlike b (MoreAlike P p)
+      unfolding MoreAlike
       same_best b P p k below apart = record {
         below = λ q. elim [ inl a ↦ k.below q a | inr a ↦ subst (λ w. is_before (path w) b.path ≡ false) (sym a) below ];
         linked = λ q. elim [ inl a ↦ λ h. k.linked q a h | inr a ↦ λ h. absurd (apart (ap path (sym a) ∙ h)) ];
@@ -156,14 +158,14 @@ module _ (D : Dataset) (c : List ℕ) where
         grown = k.grown;
       }
 
-      more_best : (b : Chosen) (P : List ℕ → Type 0) (p : List ℕ) (f : Outcome) → Held b P → f.text ≡ path p → f.text ≡ b.path → Linked D c i f.issuer (out p) → Grows i f.issuer
-          → Held (record { path = b.path; issuer = b.issuer; others = b.others ++ f.issuer ∷ [] }) (More P p)
-      unfolding More
+      more_best : (b : Chosen) (P : List ℕ → Type 0) (p : List ℕ) (f : Outcome) → HeldAlike b P → f.text ≡ path p → f.text ≡ b.path → Linked D c i f.issuer (out p) → Grows i f.issuer
+          → HeldAlike (record { path = b.path; issuer = b.issuer; others = b.others ++ f.issuer ∷ [] }) (MoreAlike P p)
+      unfolding MoreAlike
       more_best b P p f k e same l g = record {
-        below = λ q. elim [ inl a ↦ k.below q a | inr a ↦ subst (λ w. is_before w b.path ≡ false) (sym same ∙ e ∙ ap path (sym a)) (is_before_self b.path) ];
+        below = λ q. elim [ inl a ↦ k.below q a | inr a ↦ subst (λ w. is_before w b.path ≡ false) (sym same ∙ e ∙ ap path (sym a)) (is_before-irrefl b.path) ];
         linked = λ q. elim [
-          | inl a ↦ λ h. let r = k.linked q a h in (r.0, in_append_left r.0 (b.issuer ∷ b.others) (f.issuer ∷ []) r.1, r.2)
-          | inr a ↦ λ h. (f.issuer, in_append_right f.issuer (b.issuer ∷ b.others) (f.issuer ∷ []) (inl refl), subst (λ w. Linked D c i f.issuer (out w)) (sym a) l)
+          | inl a ↦ λ h. let r = k.linked q a h in (r.0, In-append_left (b.issuer ∷ b.others) (f.issuer ∷ []) r.0 r.1, r.2)
+          | inr a ↦ λ h. (f.issuer, In-append_right (b.issuer ∷ b.others) (f.issuer ∷ []) f.issuer (inl refl), subst (λ w. Linked D c i f.issuer (out w)) (sym a) l)
         ];
         at = (k.at.0, inl k.at.1, k.at.2);
         grown = λ m h. grown_either m (in_either m h);
@@ -175,26 +177,26 @@ module _ (D : Dataset) (c : List ℕ) where
           grown_either m (inr (inr a)) = absurd a
 
           in_either : (m : List ℕ) → In m ((b.issuer ∷ b.others) ++ (f.issuer ∷ [])) → In m (b.issuer ∷ b.others) ⊎ In m (f.issuer ∷ [])
-          in_either m h = in_append_cases m (b.issuer ∷ b.others) (f.issuer ∷ []) h
+          in_either m h = In-append (b.issuer ∷ b.others) (f.issuer ∷ []) m h
 
-      better_step : (b : Chosen) (P : List ℕ → Type 0) (p : List ℕ) (f : Outcome) → Held b P → f.text ≡ path p → Linked D c i f.issuer (out p) → Grows i f.issuer
+      better_step : (b : Chosen) (P : List ℕ → Type 0) (p : List ℕ) (f : Outcome) → HeldAlike b P → f.text ≡ path p → Linked D c i f.issuer (out p) → Grows i f.issuer
           → (s : Bool) → is_before f.text b.path ≡ s → (t : Bool) → bytes_eq f.text b.path ≡ t
-          → Kept (cond s (Some (record { path = f.text; issuer = f.issuer; others = [] })) (cond t (Some (record { path = b.path; issuer = b.issuer; others = b.others ++ f.issuer ∷ [] })) (Some b))) (More P p)
-      unfolding Kept
-      better_step b P p f k e l g true es t et = fresh_best P p f e l g (λ q a. not_before_lesser (path q) f.text b.path es (k.below q a))
+          → KeptAlike (cond s (Some (record { path = f.text; issuer = f.issuer; others = [] })) (cond t (Some (record { path = b.path; issuer = b.issuer; others = b.others ++ f.issuer ∷ [] })) (Some b))) (MoreAlike P p)
+      unfolding KeptAlike
+      better_step b P p f k e l g true es t et = fresh_best P p f e l g (λ q a. not_before-lesser (path q) f.text b.path es (k.below q a))
           (λ q a h. true≢false (sym es ∙ subst (λ w. is_before w b.path ≡ false) h (k.below q a)))
       better_step b P p f k e l g false es true et = more_best b P p f k e ((bytes_decides f.text b.path).0 et) l g
       better_step b P p f k e l g false es false et = same_best b P p k (subst (λ w. is_before w b.path ≡ false) e es) (λ h. true≢false (sym ((bytes_decides f.text b.path).1 (e ∙ h)) ∙ et))
 
-      kept_step : (b : Option Chosen) (P : List ℕ → Type 0) (p : List ℕ) (f : Option Outcome) → Kept b P → Meets (chosen_text b) i f (path p) (out p) → GrownFound c i f → Kept (choose b f) (More P p)
-      unfolding Kept Meets IsLater GrownFound
+      kept_step : (b : Option Chosen) (P : List ℕ → Type 0) (p : List ℕ) (f : Option Outcome) → KeptAlike b P → Meets (chosen_text b) i f (path p) (out p) → GrownFound c i f → KeptAlike (choose b f) (MoreAlike P p)
+      unfolding KeptAlike Meets IsLater GrownFound
       kept_step None P p None k m g = absurd m
       kept_step None P p (Some f) k m g = fresh_best P p f m.0 m.1 g (λ q a. absurd (k q a)) (λ q a h. k q a)
-      kept_step (Some b) P p None k m g = same_best b P p k (is_before_asym b.path (path p) m) (λ h. true≢false (sym m ∙ ap (λ w. is_before b.path w) h ∙ is_before_self b.path))
+      kept_step (Some b) P p None k m g = same_best b P p k (is_before-asym b.path (path p) m) (λ h. true≢false (sym m ∙ ap (λ w. is_before b.path w) h ∙ is_before-irrefl b.path))
       kept_step (Some b) P p (Some f) k m g = better_step b P p f k m.0 m.1 g (is_before f.text b.path) refl (bytes_eq f.text b.path) refl
 
-      kept_same : (b : Option Chosen) (P Q : List ℕ → Type 0) → ((q : List ℕ) → P q → Q q) → ((q : List ℕ) → Q q → P q) → Kept b P → Kept b Q
-      unfolding Kept
+      kept_same : (b : Option Chosen) (P Q : List ℕ → Type 0) → ((q : List ℕ) → P q → Q q) → ((q : List ℕ) → Q q → P q) → KeptAlike b P → KeptAlike b Q
+      unfolding KeptAlike
       kept_same None P Q to from k = λ q h. k q (from q h)
       kept_same (Some b) P Q to from k = record {
         below = λ q h. k.below q (from q h);
@@ -203,53 +205,53 @@ module _ (D : Dataset) (c : List ℕ) where
         grown = k.grown;
       }
 
-      Either : (List ℕ → Type 0) → List (List ℕ) → List ℕ → Type 0
-      Either P ps q = P q ⊎ In q ps
+      EitherAlike : (List ℕ → Type 0) → List (List ℕ) → List ℕ → Type 0
+      EitherAlike P ps q = P q ⊎ In q ps
 
-      counted_permutations-kept : (b : Option Chosen) (P : List ℕ → Type 0) (ps : List (List ℕ)) → AreOnce i → ((p : List ℕ) → In p ps → PermutationPath R c i p (path p) (out p)) → Kept b P
-          → AreJoined D (counted_permutations call b c i ps).trace.ties → Kept (counted_permutations call b c i ps).value (Either P ps)
-      unfolding Either More
-      counted_permutations-kept b P [] d walks k joined = kept_same b P (Either P []) (λ q h. inl h) (λ q. elim [ inl a ↦ a | inr a ↦ absurd a ]) k
-      counted_permutations-kept b P (p ∷ ps) d walks k joined =
+      counted_permutations-kept_alike : (b : Option Chosen) (P : List ℕ → Type 0) (ps : List (List ℕ)) → AreOnce i → ((p : List ℕ) → In p ps → PermutationPath R c i p (path p) (out p)) → KeptAlike b P
+          → AreJoined D (counted_permutations call b c i ps).trace.ties → KeptAlike (counted_permutations call b c i ps).value (EitherAlike P ps)
+      unfolding EitherAlike MoreAlike
+      counted_permutations-kept_alike b P [] d walks k joined = kept_same b P (EitherAlike P []) (λ q h. inl h) (λ q. elim [ inl a ↦ a | inr a ↦ absurd a ]) k
+      counted_permutations-kept_alike b P (p ∷ ps) d walks k joined =
           let t = counted_permutation call (chosen_text b) c i p in
           let step = kept_step b P p t.value k (counted_permutation-unique (chosen_text b) i p d (joined_left D t.trace.ties _ joined) (path p) (out p) (walks p (inl refl))) (counted_permutation-grows c call grows (chosen_text b) i p d) in
-          let ih = counted_permutations-kept (choose b t.value) (More P p) ps d (λ q h. walks q (inr h)) step (joined_right D t.trace.ties _ joined) in
-          kept_same _ (Either (More P p) ps) (Either P (p ∷ ps)) (λ q. elim [ inl a ↦ elim a [ inl e ↦ inl e | inr e ↦ inr (inl e) ] | inr h ↦ inr (inr h) ])
+          let ih = counted_permutations-kept_alike (choose b t.value) (MoreAlike P p) ps d (λ q h. walks q (inr h)) step (joined_right D t.trace.ties _ joined) in
+          kept_same _ (EitherAlike (MoreAlike P p) ps) (EitherAlike P (p ∷ ps)) (λ q. elim [ inl a ↦ elim a [ inl e ↦ inl e | inr e ↦ inr (inl e) ] | inr h ↦ inr (inr h) ])
           (λ q. elim [ inl a ↦ inl (inl a) | inr h ↦ elim h [ inl e ↦ inl (inr e) | inr g ↦ inr g ] ]) ih
 
     -- a joined tie of the best
     tie_joined : (i left : List ℕ) (rs : List (List ℕ)) (l : List ℕ) → AreJoined D (map (λ r. record { canonical = c; passed = i; left = left; right = r }) rs) → In l rs → IsJoined D c left l
-    tie_joined i left rs l j h = j (record { canonical = c; passed = i; left = left; right = l }) (in_map (λ r. record { canonical = c; passed = i; left = left; right = r }) l rs h)
+    tie_joined i left rs l j h = j (record { canonical = c; passed = i; left = left; right = l }) (In-map (λ r. record { canonical = c; passed = i; left = left; right = r }) rs l h)
 
     -- a family begun with the run's own list
     family_best : (bg i : List ℕ) (path : List ℕ → Text) (out : List ℕ → List ℕ) (taken : List ℕ) → Permutes bg taken → ((p : List ℕ) → Permutes bg p → is_before (path p) (path taken) ≡ false)
-        → (b : Option Chosen) → Kept i path out b (Either i path out (λ q. ⊥) (arrangements bg)) → AreJoined D (ties_of_chosen b c i)
+        → (b : Option Chosen) → KeptAlike i path out b (EitherAlike i path out (λ q. ⊥) (arrangements bg)) → AreJoined D (ties_of_chosen b c i)
         → (path taken ≡ path_or_none b) × Linked D c i (issuer_or b i) (out taken)
-    unfolding Kept Either
-    family_best bg i path out taken a least None k joined = absurd (k taken (inr (in_arrangements bg taken a)))
+    unfolding KeptAlike EitherAlike
+    family_best bg i path out taken a least None k joined = absurd (k taken (inr (In-arrangements bg taken a)))
     family_best bg i path out taken a least (Some b) k joined =
-        let same : path taken ≡ b.path = equal_from_neither (path taken) b.path (k.below taken (inr (in_arrangements bg taken a)))
+        let same : path taken ≡ b.path = same_from_neither_before (path taken) b.path (k.below taken (inr (In-arrangements bg taken a)))
         (subst (λ w. is_before w (path taken) ≡ false) k.at.2 (least k.at.0 (at_arranged k.at.0 k.at.1))) in
-        let r = k.linked taken (inr (in_arrangements bg taken a)) same in
+        let r = k.linked taken (inr (In-arrangements bg taken a)) same in
         (same, linked_trans D c i b.issuer r.0 (out taken) (to_left r.0 r.1) r.2)
       where
         at_arranged : (q : List ℕ) → ⊥ ⊎ In q (arrangements bg) → Permutes bg q
         at_arranged q (inl h) = absurd h
-        at_arranged q (inr h) = in_arrangements_from bg q h
+        at_arranged q (inr h) = from_In-arrangements bg q h
 
         to_left : (l : List ℕ) → In l (b.issuer ∷ b.others) → Linked D c i b.issuer l
         to_left l (inl e) = subst (Linked D c i b.issuer) (sym e) (linked_refl D c i b.issuer)
         to_left l (inr h) = joined-linked D c i b.issuer l (k.grown b.issuer (inl refl)) (k.grown l (inr h)) (tie_joined i b.issuer b.others l joined h)
 
-    none_kept : (i : List ℕ) (path : List ℕ → Text) (out : List ℕ → List ℕ) → Kept i path out None (λ q. ⊥)
-    unfolding Kept
-    none_kept i path out p h = h
+    none_kept_alike : (i : List ℕ) (path : List ℕ → Text) (out : List ℕ → List ℕ) → KeptAlike i path out None (λ q. ⊥)
+    unfolding KeptAlike
+    none_kept_alike i path out p h = h
 
     counted_permutations-unique : (bg i : List ℕ) → AreOnce i → let t = counted_permutations call None c i (arrangements bg) in AreJoined D (t.trace.ties ++ ties_of_chosen t.value c i)
         → (π : Text) (j : List ℕ) → ChosenPath R c bg i π j → (π ≡ path_or_none t.value) × Linked D c i (issuer_or t.value i) j
     counted_permutations-unique bg i d joined π j w =
         let t = counted_permutations call None c i (arrangements bg) in
-        let k = counted_permutations-kept i w.paths.path w.paths.issuer None (λ q. ⊥) (arrangements bg) d (λ p h. w.paths.walks p (in_arrangements_from bg p h)) (none_kept i w.paths.path w.paths.issuer) (joined_left D t.trace.ties (ties_of_chosen t.value c i) joined) in
+        let k = counted_permutations-kept_alike i w.paths.path w.paths.issuer None (λ q. ⊥) (arrangements bg) d (λ p h. w.paths.walks p (from_In-arrangements bg p h)) (none_kept_alike i w.paths.path w.paths.issuer) (joined_left D t.trace.ties (ties_of_chosen t.value c i) joined) in
         let r = family_best bg i w.paths.path w.paths.issuer w.chosen w.is_least.permutes w.is_least.least t.value k (joined_right D t.trace.ties (ties_of_chosen t.value c i) joined) in
         (w.path_is ∙ r.0, subst (Linked D c i (issuer_or t.value i)) (sym w.issuer_is) r.1)
 
@@ -278,7 +280,7 @@ module _ (D : Dataset) (c : List ℕ) where
         (w.text_is ∙ (λ q. h ++ f.0 q ++ r.0 q), r.1)
       where
         joined_front : (ts us vs : List Tie) → AreJoined D (ts ++ (us ++ vs)) → AreJoined D (ts ++ us)
-        joined_front ts us vs j = λ t h. elim (in_append_cases t ts us h) [ inl g ↦ j t (in_append_left t ts (us ++ vs) g) | inr g ↦ j t (in_append_right t ts (us ++ vs) (in_append_left t us vs g)) ]
+        joined_front ts us vs j = λ t h. elim (In-append ts us t h) [ inl g ↦ j t (In-append_left ts (us ++ vs) t g) | inr g ↦ j t (In-append_right ts (us ++ vs) t (In-append_left us vs t g)) ]
 
   -- ---- the calls
 
@@ -303,11 +305,11 @@ module _ (D : Dataset) (c : List ℕ) where
 
 pub unique_up_to_symmetry : UniqueUpToSymmetry
 unique_up_to_symmetry ρ D c n i joined h j w =
-    let r = counted_call-unique D c ρ (suc D.nodes) n i (is_issued_from_in n i w.valid.listed) (are_once_from_distinct i w.valid.temporary_once) joined h j w.outcome in
+    let r = counted_call-unique D c ρ (suc D.nodes) n i (is_issued-from_In n i w.valid.listed) (are_once_from_distinct i w.valid.temporary_once) joined h j w.outcome in
     record {
       hash_is = r.0;
       symmetry = r.1.s;
-      fixes_canonical = λ x e. r.1.canon x (is_issued_from_in x c e);
-      fixes_passed = λ x e. r.1.begun x (is_issued_from_in x i e);
+      fixes_canonical = λ x e. r.1.canon x (is_issued-from_In x c e);
+      fixes_passed = λ x e. r.1.begun x (is_issued-from_In x i e);
       issuer_is = r.1.is;
     }

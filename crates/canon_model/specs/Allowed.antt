@@ -1,7 +1,7 @@
 -- What the Canonicalization Algorithm allows for a dataset (RDF Dataset Canonicalization, section 4.4).
-use Rattle.std.specs.Prelude.{◌≡◌, ℕ, zero, suc, Bool, false, not, List, [], ◌∷◌, ◌++◌, map, filter, flat_map}
+use Rattle.std.specs.Prelude.{◌≡◌, ℕ, Bool, false, not, List, [], ◌∷◌, ◌++◌, map, filter, flat_map}
 use Rattle.std.specs.Str.{bytes_eq}
-use Rattle.rdf_terms.specs.Lists.{Text, In, Permutes, sorted, is_before}
+use Rattle.rdf_terms.specs.Lists.{Text, numbers_below, In, Permutes, sorted, is_before}
 use Rattle.rdf_terms.specs.Dataset.{Dataset}
 use Rattle.rdf_terms.specs.CanonicalForm.{issued_names, canonical_nquads}
 use Rattle.rdf_terms.specs.declared.term.Prefix.TheVariants.{Canonical}
@@ -12,10 +12,6 @@ use Rattle.canon_model.specs.Groups.{each_text_once}
 use Rattle.canon_model.specs.Outcome.{HashNDegreeQuads}
 
 -- ---- nodes by their first-degree hash (step 3)
-
-abbrev pub numbers_below : ℕ → List ℕ
-numbers_below zero = []
-numbers_below (suc n) = numbers_below n ++ n ∷ []
 
 -- in code point order, each once
 abbrev pub first_degree_hashes : Profile → Dataset → List Text
