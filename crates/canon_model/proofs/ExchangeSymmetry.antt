@@ -4,7 +4,6 @@ use Rattle.std.proofs.lemmas.Bool.{or_cases, or_parts}
 use Rattle.rdf_terms.proofs.Membership.{In-map}
 use Rattle.rdf_terms.specs.CanonicalForm.{after_first, place_of}
 use Rattle.rdf_terms.specs.Dataset.{Dataset, mentions}
-use Rattle.rdf_terms.specs.Document.{statement}
 use Rattle.rdf_terms.specs.Isomorphism.{Relabelling, Symmetry}
 use Rattle.rdf_terms.specs.Lists.{In}
 use Rattle.rdf_terms.specs.Terms.{Statement}

@@ -37,3 +37,4 @@ mod OneOutput
 mod CallTies
 mod RunTies
 mod StrictlyAscending
+mod Examples

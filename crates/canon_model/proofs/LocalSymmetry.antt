@@ -4,7 +4,6 @@ use Rattle.std.proofs.lemmas.Bool.{or_cases, or_left, or_right}
 use Rattle.rdf_terms.proofs.Membership.{In-map, from_In-map}
 use Rattle.rdf_terms.proofs.Permutations.{In-Permutes, Permutes-from_equal, Permutes-sym, length-Permutes}
 use Rattle.rdf_terms.specs.Dataset.{Dataset, IsValid, is_named_by, is_node, mentions}
-use Rattle.rdf_terms.specs.Document.{statements}
 use Rattle.rdf_terms.specs.Isomorphism.{Carries, Relabelling, Symmetry, relabel_graph_name, relabel_statement, relabel_term}
 use Rattle.rdf_terms.specs.Lists.{AreDistinct, In, Permutes, permutes_cons, permutes_nil, permutes_swap, permutes_trans}
 use Rattle.rdf_terms.specs.Terms.{IsIri, IsValidStatement, Statement}

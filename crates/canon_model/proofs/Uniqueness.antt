@@ -3,7 +3,6 @@ use Rattle.std.proofs.Common.{Bool, List, None, Option, Some, [], ap, append-nil
 use Rattle.std.specs.Cmp.Lexicographic.{bytes_decides}
 use Rattle.std.specs.Str.{bytes_eq}
 use Rattle.rdf_terms.proofs.Membership.{In-append, In-append_left, In-append_right, In-map}
-use Rattle.rdf_terms.proofs.Moving.{moved}
 use Rattle.rdf_terms.proofs.TextOrder.{is_before-asym, is_before-irrefl, same_from_neither_before}
 use Rattle.rdf_terms.specs.Dataset.{Dataset}
 use Rattle.rdf_terms.specs.Isomorphism.{Symmetry}
