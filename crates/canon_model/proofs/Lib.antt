@@ -1,40 +1,41 @@
-mod Order
-mod Maps
-mod Relabel
-mod RelabelGroups
-mod Skip
-mod Membership
-mod Equivariance
-mod Issuers
-mod Exchange
-mod Symmetries
-mod Arrangements
-mod Neighbours
-mod Coverage
-mod CountedGrows
-mod Uniqueness
-mod CountedPaths
-mod Pigeonhole
-mod Totality
-mod OutcomesGrow
-mod Depth
-mod LocalSymmetry
-mod ExchangeSymmetry
-mod Gluing
-mod IssueEach
-mod Components
-mod ResultOrders
-mod SortedResults
-mod LinkedResults
-mod StartNodes
-mod IssuedLists
-mod CanonicalLists
-mod CountedAllowed
-mod OutcomeComponents
-mod HashStep
-mod RelabelRun
-mod OneOutput
-mod CallTies
-mod RunTies
-mod StrictlyAscending
+pub mod HexHashes
+pub mod Order
+pub mod Maps
+pub mod Relabel
+pub mod RelabelGroups
+pub mod Skip
+pub mod Membership
+pub mod Equivariance
+pub mod Issuers
+pub mod Exchange
+pub mod Symmetries
+pub mod Arrangements
+pub mod Neighbours
+pub mod Coverage
+pub mod CountedGrows
+pub mod Uniqueness
+pub mod CountedPaths
+pub mod Pigeonhole
+pub mod Totality
+pub mod OutcomesGrow
+pub mod Depth
+pub mod LocalSymmetry
+pub mod ExchangeSymmetry
+pub mod Gluing
+pub mod IssueEach
+pub mod Components
+pub mod ResultOrders
+pub mod SortedResults
+pub mod LinkedResults
+pub mod StartNodes
+pub mod IssuedLists
+pub mod CanonicalLists
+pub mod CountedAllowed
+pub mod OutcomeComponents
+pub mod HashStep
+pub mod RelabelRun
+pub mod OneOutput
+pub mod CallTies
+pub mod RunTies
+pub mod StrictlyAscending
 mod Examples
