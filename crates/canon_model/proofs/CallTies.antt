@@ -5,7 +5,7 @@ use Rattle.rdf_terms.proofs.Permutations.{In-Permutes, Permutes-sym}
 use Rattle.rdf_terms.specs.Dataset.{Dataset}
 use Rattle.rdf_terms.specs.Lists.{In, Permutes, Text, is_before}
 use Rattle.canon_model.specs.Arrangements.{arrangements}
-use Rattle.canon_model.specs.CountedRun.{Chosen, Counted, Outcome, Tie, choose, chosen_text, counted_call_within, counted_groups, counted_permutation, counted_permutations, counted_recursion, is_skipped, issuer_or, path_or_none, skips, ties_of_chosen}
+use Rattle.canon_model.specs.CountedRun.{Chosen, Counted, Outcome, Tie, choose, chosen_text, counted_call, counted_call_within, counted_groups, counted_permutation, counted_permutations, counted_recursion, is_skipped, issuer_or, path_or_none, skips, ties_of_chosen}
 use Rattle.canon_model.specs.Coverage.{BeginsWith, Covers, Reached, begin, onward}
 use Rattle.canon_model.specs.Groups.{groups}
 use Rattle.canon_model.specs.Issuer.{IsValidCall, is_issued}
@@ -241,5 +241,6 @@ module _ (ρ : Profile) (D : Dataset) (c : List ℕ) (nodes : MentionsNodes D) (
       })
 
 pub ties_of_call_are_tied : TiesOfCallAreTied
+unfolding counted_call
 ties_of_call_are_tied ρ D c n i valid v = counted_call-ties ρ D c (mentions_nodes D valid) (record { once = are_once_from_distinct c v.canonical_once; below = λ x h. v.canonical_nodes x (In-from_is_issued x c h) })
     (suc D.nodes) n i (is_issued-from_In n i v.listed) (fits_valid_call ρ D c (mentions_nodes D valid) (suc D.nodes) n i v (omega arith))

@@ -4,7 +4,7 @@ use Rattle.rdf_terms.proofs.Permutations.{In-Permutes, Permutes-sym}
 use Rattle.rdf_terms.specs.Dataset.{Dataset}
 use Rattle.rdf_terms.specs.Lists.{In, Text}
 use Rattle.canon_model.specs.Arrangements.{arrangements}
-use Rattle.canon_model.specs.CountedRun.{Chosen, Counted, CountedCall, Outcome, after, choose, chosen_text, counted_call_within, counted_groups, counted_permutation, counted_permutations, counted_recursion, followed_by, is_skipped, issuer_or, logged, nothing, one_unit, path_or_none, skips, ties_of_chosen}
+use Rattle.canon_model.specs.CountedRun.{Chosen, Counted, CountedCall, Outcome, after, choose, chosen_text, counted_call, counted_call_within, counted_groups, counted_permutation, counted_permutations, counted_recursion, followed_by, is_skipped, issuer_or, logged, nothing, one_unit, path_or_none, skips, ties_of_chosen}
 use Rattle.canon_model.specs.Coverage.{Covers}
 use Rattle.canon_model.specs.Groups.{groups}
 use Rattle.canon_model.specs.Issuer.{is_issued}
@@ -155,6 +155,7 @@ either_order a b = by (leb a b) refl
     by false e = let l : b < a = leb-false a b e in inr (omega arith)
 
 pub depth_does_not_matter : DepthDoesNotMatter
+unfolding counted_call
 depth_does_not_matter ρ D c n i valid v depth room = (
   (λ h j. (
     (λ w. record { valid = v; outcome = n_degree_within-depth ρ D c (mentions_nodes D valid) depth (suc D.nodes) n i h j hn whole w }),

@@ -202,6 +202,7 @@ fits_valid_call ρ D c nodes k n i v room = record {
 }
 
 pub counted_call_is_outcome : CountedCallIsOutcome
+unfolding counted_call
 counted_call_is_outcome ρ D c n i valid v = record {
   valid = v;
   outcome = n_degree_within-counted ρ D c (mentions_nodes D valid) (suc D.nodes) n i (is_issued-from_In n i v.listed) (fits_valid_call ρ D c (mentions_nodes D valid) (suc D.nodes) n i v (omega arith));
