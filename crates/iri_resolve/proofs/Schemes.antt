@@ -1,11 +1,12 @@
 -- A text has a scheme exactly where its bytes that may stand in one are followed by `:`, the first of them a letter.
 use Rattle.std.proofs.Common.{◌≡◌, ◌↔◌, ℕ, suc, ◌+◌, ◌<◌, Bool, true, false, [], ◌∷◌, ◌++◌, All, length, take, drop, get_or, refl, sym, ap, subst, nat_lt, nat_eq, ◌&&◌, ◌∙◌, arith, length-take, length-append}
-use Rattle.std.specs.List.{prefix_len}
+use Rattle.std.specs.List.{prefix_len, position_or_len}
 use Rattle.std.specs.Char.{is_ascii_alphabetic}
 use Rattle.std.proofs.lemmas.List.{take-append-drop, get_or-take, get_or_at, drop_more}
 use Rattle.std.proofs.lemmas.List.Sums.{prefix_len_passes}
 use Rattle.std.proofs.lemmas.Bool.{and_parts, ltb-true, eqb-true, lt-ltb}
 use Rattle.rdf_terms.specs.Lists.{Text}
+use Rattle.iri_resolve.proofs.FirstPlaces.{first_place-end}
 use Rattle.iri_resolve.specs.Scheme.{begins_with_scheme}
 use Rattle.rdf_terms.specs.Terms.{is_scheme_byte, HasScheme}
 
@@ -19,13 +20,13 @@ pub record EndsScheme (text : Text) : Type 0 where
   pub letter : is_ascii_alphabetic (get_or text 0 0) ≡ true
 
 -- bytes that pass, and then one that does not
-prefix_len-append : (p : ℕ → Bool) (front rest : Text) (x : ℕ) → All (λ c. p c ≡ true) front → p x ≡ false → prefix_len p (front ++ x ∷ rest) ≡ length front
+pub prefix_len-append : (p : ℕ → Bool) (front rest : Text) (x : ℕ) → All (λ c. p c ≡ true) front → p x ≡ false → prefix_len p (front ++ x ∷ rest) ≡ length front
 prefix_len-append p [] rest x passes stops = rw stops refl
 prefix_len-append p (c ∷ cs) rest x passes stops =
     rw (passes 0 c (omega arith)) (omega (arith, prefix_len-append p cs rest x (λ k d l. passes (suc k) d (omega arith)) stops))
 
 -- a letter may stand in a scheme
-may_stand : (c : ℕ) → is_ascii_alphabetic c ≡ true → is_scheme_byte c ≡ true
+pub may_stand : (c : ℕ) → is_ascii_alphabetic c ≡ true → is_scheme_byte c ≡ true
 may_stand c letter = grind (arith, letter)
 
 pub EndsScheme-from_HasScheme : (text : Text) → HasScheme text → EndsScheme text
@@ -65,3 +66,9 @@ begins_with_scheme-HasScheme text = (
       let e = EndsScheme-from_HasScheme text h in
       rw (lt-ltb (scheme_len text) (length text) e.within, e.colon, e.letter) refl),
 )
+
+-- a text with a scheme has a `:`
+pub scheme_has_colon : (text : Text) → begins_with_scheme text ≡ true → position_or_len (λ b. nat_eq b 58) text ≡ length text → ⊥
+scheme_has_colon text t =
+    let e = EndsScheme-from_HasScheme text ((begins_with_scheme-HasScheme text).0 t) in
+    first_place-end 58 text (scheme_len text) e.within e.colon

@@ -1,1 +1,5 @@
 pub mod Scheme
+pub mod Components
+pub mod Parts
+pub mod DotSegments
+pub mod Resolution

@@ -19,7 +19,7 @@ fn scheme_len(text: &[u8]) -> usize
 }
 
 // Whether the bytes begin with a scheme and `:`.
-fn begins_with_scheme(text: &[u8]) -> bool
+pub(crate) fn begins_with_scheme(text: &[u8]) -> bool
     ensures { result ≡ begins_with_scheme text.now }
 {
     let end = scheme_len(text);
