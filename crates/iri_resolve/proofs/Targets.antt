@@ -63,6 +63,14 @@ module _ (base reference : Components) where
       by true t = rw (s, a, e, t) refl
       by false t = rw (s, a, e, t) refl
 
+  pub target-below : is_some reference.scheme ≡ false → is_some reference.authority ≡ false →
+      with_path base.scheme base.authority (target base reference).path (if nat_eq (length reference.path) 0 then (if is_some reference.query then reference.query else base.query) else reference.query) ≡ target base reference
+  target-below s a = by (nat_eq (length reference.path) 0) refl
+    where
+      by : (b : Bool) → nat_eq (length reference.path) 0 ≡ b → with_path base.scheme base.authority (target base reference).path (if nat_eq (length reference.path) 0 then (if is_some reference.query then reference.query else base.query) else reference.query) ≡ target base reference
+      by true e = rw e (target-empty s a e)
+      by false e = rw e (target-path s a e)
+
   pub path-own : (is_some reference.scheme || (is_some reference.authority || begins_with_slash reference.path)) ≡ true → without_dot_segments reference.path ≡ (target base reference).path
   unfolding target
   path-own own = by (is_some reference.scheme) (is_some reference.authority) (nat_eq (length reference.path) 0) (begins_with_slash reference.path) refl refl refl refl own

@@ -1,5 +1,5 @@
-ghost use Rattle.std.specs.Prelude.{◌≡◌, ◌++◌, ◌||◌, IfOk, OnOk, All, false, is_some, string_bytes};
-ghost use Rattle.std.specs.Option.{option_copied};
+ghost use Rattle.std.specs.Prelude.{◌≡◌, ◌++◌, ◌||◌, ◌==◌, if◌then◌else◌, length, IfOk, OnOk, All, false, is_some, string_bytes};
+ghost use Rattle.std.specs.Option.{option_copied, option_or};
 ghost use Rattle.rdf_terms.specs.Terms.{HasScheme, is_excluded};
 ghost use Rattle.iri_resolve.specs.Components.{components};
 ghost use Rattle.iri_resolve.specs.Parts.{components_of};
@@ -55,6 +55,18 @@ fn target_path(alloc: Global, base: &Parts<'_>, reference: &Parts<'_>) -> Result
     }
 }
 
+// The query of a target under the base's authority: a path of the reference's own has its query.
+fn query_below<'a>(base: &Parts<'a>, reference: &Parts<'a>) -> Option<&'a str>
+    ensures { option_copied result ≡ (if length reference.now.path.now == 0
+        then option_copied (option_or reference.now.query base.now.query)
+        else option_copied reference.now.query) }
+{
+    if !reference.path.is_empty() {
+        return reference.query;
+    }
+    reference.query.or(base.query)
+}
+
 // The components of the target, with its path (RFC 3986, section 5.2.2).
 fn target<'a>(base: &Parts<'a>, reference: &Parts<'a>, path: &'a str) -> Parts<'a>
     requires { path.now ≡ (target (components_of base.now) (components_of reference.now)).path }
@@ -83,15 +95,8 @@ fn target<'a>(base: &Parts<'a>, reference: &Parts<'a>, path: &'a str) -> Parts<'
             query,
             fragment,
         }
-    } else if reference.path.is_empty() {
-        Parts {
-            scheme: base.scheme,
-            authority: base.authority,
-            path,
-            query: query.or(base.query),
-            fragment,
-        }
     } else {
+        let query = query_below(base, reference);
         Parts {
             scheme: base.scheme,
             authority: base.authority,

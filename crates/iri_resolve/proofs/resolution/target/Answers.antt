@@ -1,6 +1,6 @@
 use Rattle.std.proofs.Common.{sym}
 use Rattle.iri_resolve.specs.Parts.{components_of}
-use Rattle.iri_resolve.proofs.Targets.{target-scheme, target-authority, target-empty, target-path, is_some-option_copied, option_copied-or}
+use Rattle.iri_resolve.proofs.Targets.{target-scheme, target-authority, target-below, is_some-option_copied, option_copied-or}
 use Rattle.iri_resolve.proofs.resolution.target.Goals as goal
 
 pub returns-then-is_some : goal.returns-then-is_some
@@ -15,16 +15,9 @@ returns-then-is_some-2 c =
     let reference = components_of c.args.reference.now in
     rw c.requires (target-authority base reference (is_some-option_copied _ _ c.if-is_some.ensures) (is_some-option_copied _ _ c.if-is_some-2.ensures))
 
-pub returns-then-is_empty : goal.returns-then-is_empty
-returns-then-is_empty c =
+pub returns-else-is_some-2 : goal.returns-else-is_some-2
+returns-else-is_some-2 c =
     let base = components_of c.args.base.now in
     let reference = components_of c.args.reference.now in
-    rw (c.requires, c.or.ensures, option_copied-or c.args.reference.now.query c.args.base.now.query)
-    (target-empty base reference (is_some-option_copied _ _ c.if-is_some.ensures) (is_some-option_copied _ _ c.if-is_some-2.ensures) (sym c.if-is_empty.ensures))
-
-pub returns-else-is_empty : goal.returns-else-is_empty
-returns-else-is_empty c =
-    let base = components_of c.args.base.now in
-    let reference = components_of c.args.reference.now in
-    rw c.requires
-    (target-path base reference (is_some-option_copied _ _ c.if-is_some.ensures) (is_some-option_copied _ _ c.if-is_some-2.ensures) (sym c.if-is_empty.ensures))
+    rw (c.requires, c.query_below-query.ensures, option_copied-or c.args.reference.now.query c.args.base.now.query)
+    (target-below base reference (is_some-option_copied _ _ c.if-is_some.ensures) (is_some-option_copied _ _ c.if-is_some-2.ensures))
