@@ -1,0 +1,164 @@
+-- A document whose quads were put in another order, and what is told of its nodes.
+use Rattle.std.proofs.Common.{◌≡◌, ℕ, ◌<◌, ◌⊎◌, ◌↔◌, IsTrue, Bool, true, false, ◌||◌, List, [], ◌∷◌, Option, Some, None, IfSome, All, map, length, get_or, slice_get, inl, inr, refl, sym, ap, ◌∙◌, subst, true≢false, eqb-true, arith}
+use Rattle.std.specs.List.Sorted.{IsPermutation}
+use Rattle.std.proofs.lemmas.List.{length-map}
+use Rattle.std.proofs.lemmas.List.Sorted.{All-permutation, IsPermutation-map, length_permutation}
+use Rattle.std.proofs.lemmas.Option.{slice_get_within, get_or_from_slice_get, slice_get-get_or}
+use Rattle.rdf_terms.specs.Lists.{In, AreDistinct, Permutes, numbers_below}
+use Rattle.rdf_terms.specs.Terms.{Statement, IsValidStatement, IsValidTerm}
+use Rattle.rdf_terms.specs.Dataset.{IsUsed, mentions, is_node, is_named_by}
+use Rattle.rdf_terms.specs.Document.{Document, IsDocument, IsInRange, statement, statements, term_at, graph_name_at}
+use Rattle.rdf_terms.specs.declared.term.Term.{Term}
+use Rattle.rdf_terms.specs.declared.term.Term.TheVariants.{Iri, Blank, Literal}
+use Rattle.rdf_terms.specs.declared.term.Quad.{Quad}
+use Rattle.rdf_terms.specs.declared.term.Label.{Label}
+use Rattle.rdf_terms.proofs.Membership.{In-at, place_in, In-map, from_In-map}
+use Rattle.rdf_terms.proofs.Permutations.{Permutes-from_IsPermutation, Permutes-map, AreDistinct-Permutes, In-Permutes}
+use Rattle.rdf_terms.proofs.Adding.{statement_injective}
+use Rattle.dataset_index.specs.declared.mention.Mention.{Mention}
+use Rattle.dataset_index.specs.Mentions.{noted_places, places_of, NotesPlaces, places_before}
+use Rattle.dataset_index.specs.NodeTerms.{NumbersNodes}
+use Rattle.dataset_index.specs.Indexed.{IsIndexed}
+use Rattle.dataset_index.specs.QuadOrder.{Ascend}
+use Rattle.dataset_index.proofs.Numbers.{length-numbers_below, slice_get-map_numbers_below, map-numbers_below}
+
+pub AreDistinct-from_map : {A B : Type 0} (f : A → B) (xs : List A) → AreDistinct (map f xs) → AreDistinct xs
+AreDistinct-from_map f [] h = tt
+AreDistinct-from_map f (x ∷ xs) h = (λ i. h.0 (In-map f xs x i), AreDistinct-from_map f xs h.1)
+
+All-In : {A : Type 0} (P : A → Type 0) (xs : List A) (x : A) → All P xs → In x xs → P x
+All-In P xs x all h =
+    let p = place_in xs x h in
+    subst P (get_or_from_slice_get xs p.0 x x p.1) (all p.0 x (slice_get_within xs p.0 x p.1))
+
+-- ---- another order
+
+used_stays : (sts more : List Statement) (n : ℕ) → Permutes sts more → IsUsed sts n → IsUsed more n
+used_stays sts more n p u = record { statement = u.statement; there = In-Permutes u.statement p u.there; mentioned = u.mentioned }
+
+module _ (terms : List Term) (quads sorted : List Quad) (labels : List Label) (p : IsPermutation quads sorted) where
+  abbrev given : Document
+  given = record { terms = terms; quads = quads; labels = labels }
+
+  abbrev ordered : Document
+  ordered = record { terms = terms; quads = sorted; labels = labels }
+
+  pub statements_permute : Permutes (map (statement terms) quads) (map (statement terms) sorted)
+  statements_permute = Permutes-map (statement terms) (Permutes-from_IsPermutation quads sorted p)
+
+  pub IsDocument-ordered : IsDocument given → IsDocument ordered
+  IsDocument-ordered d =
+      let l = length_permutation quads sorted p in
+      record {
+        draft = record {
+          in_range = All-permutation (IsInRange terms) quads sorted p d.draft.in_range;
+          valid = All-permutation (IsValidStatement (length labels)) (map (statement terms) quads) (map (statement terms) sorted) (IsPermutation-map (statement terms) quads sorted p) d.draft.valid;
+          distinct = AreDistinct-Permutes statements_permute d.draft.distinct;
+          distinct_labels = d.draft.distinct_labels;
+          term_used = λ n h. used_stays (map (statement terms) quads) (map (statement terms) sorted) n statements_permute (d.draft.term_used n h);
+          terms_bound = let b = d.draft.terms_bound in omega arith;
+          quads_bound = let b = d.draft.quads_bound in omega arith;
+          labels_bound = d.draft.labels_bound;
+        };
+        used = λ n h. used_stays (map (statement terms) quads) (map (statement terms) sorted) n statements_permute (d.used n h);
+      }
+
+-- ---- nodes and their terms
+
+is_blank : (n : ℕ) (t : Term) → is_node n t ≡ true → t ≡ Blank n
+is_blank n (Iri t) h = absurd (true≢false (sym h))
+is_blank n (Blank m) h = ap Blank (eqb-true m n h)
+is_blank n (Literal l) h = absurd (true≢false (sym h))
+
+one_of : (a b : Bool) → (a || b) ≡ true → (a ≡ true) ⊎ (b ≡ true)
+one_of true b h = inl refl
+one_of false b h = inr h
+
+below : (nodes n : ℕ) (t : Term) → IsValidTerm nodes t → t ≡ Blank n → n < nodes
+below nodes n t v e = subst (IsValidTerm nodes) e v
+
+mentioned_below : (nodes n : ℕ) (st : Statement) → IsValidStatement nodes st → mentions n st ≡ true → n < nodes
+mentioned_below nodes n st v h = by (one_of (is_node n st.subject) (is_node n st.object || is_named_by n st.graph_name) h)
+  where
+    named : (g : Option Term) → IfSome g (IsValidTerm nodes) → is_named_by n g ≡ true → n < nodes
+    named None v h = absurd (true≢false (sym h))
+    named (Some t) v h = below nodes n t v (is_blank n t h)
+
+    more : (is_node n st.object ≡ true) ⊎ (is_named_by n st.graph_name ≡ true) → n < nodes
+    more (inl h) = below nodes n st.object v.object (is_blank n st.object h)
+    more (inr h) = named st.graph_name v.graph_name h
+
+    by : (is_node n st.subject ≡ true) ⊎ ((is_node n st.object || is_named_by n st.graph_name) ≡ true) → n < nodes
+    by (inl h) = below nodes n st.subject v.subject (is_blank n st.subject h)
+    by (inr h) = more (one_of (is_node n st.object) (is_named_by n st.graph_name) h)
+
+-- a node of the table is below the number of nodes
+pub node_below : (d : Document) → IsDocument d → (n k : ℕ) → slice_get d.terms k ≡ Some (Blank n) → n < length d.labels
+node_below d is n k at =
+    let u = is.draft.term_used n (In-at d.terms k (Blank n) at) in
+    mentioned_below (length d.labels) n u.statement (All-In (IsValidStatement (length d.labels)) (statements d) u.statement is.draft.valid u.there) u.mentioned
+
+-- the number of the term of a node that a quad mentions
+abbrev Numbered : List Term → ℕ → Type 0
+Numbered terms n = (k : ℕ) × (k < length terms) × (slice_get terms k ≡ Some (Blank n))
+
+numbered : (terms : List Term) (n k : ℕ) → k < length terms → is_node n (term_at terms k) ≡ true → Numbered terms n
+numbered terms n k l h = (k, l, slice_get-get_or terms k (Blank 0) l ∙ ap Some (is_blank n (term_at terms k) h))
+
+mentioned_numbered : (terms : List Term) (n : ℕ) (q : Quad) → IsInRange terms q → mentions n (statement terms q) ≡ true → Numbered terms n
+mentioned_numbered terms n q r h = by (one_of (is_node n (term_at terms q.s)) (is_node n (term_at terms q.o) || is_named_by n (graph_name_at terms q.g)) h)
+  where
+    named : (g : Option ℕ) → IfSome g (λ g. g < length terms) → is_named_by n (graph_name_at terms g) ≡ true → Numbered terms n
+    named None r h = absurd (true≢false (sym h))
+    named (Some k) r h = numbered terms n k r h
+
+    more : (is_node n (term_at terms q.o) ≡ true) ⊎ (is_named_by n (graph_name_at terms q.g) ≡ true) → Numbered terms n
+    more (inl h) = numbered terms n q.o r.o h
+    more (inr h) = named q.g r.g h
+
+    by : (is_node n (term_at terms q.s) ≡ true) ⊎ ((is_node n (term_at terms q.o) || is_named_by n (graph_name_at terms q.g)) ≡ true) → Numbered terms n
+    by (inl h) = numbered terms n q.s r.s h
+    by (inr h) = more (one_of (is_node n (term_at terms q.o)) (is_named_by n (graph_name_at terms q.g)) h)
+
+node_numbered : (d : Document) → IsDocument d → (n : ℕ) → n < length d.labels → Numbered d.terms n
+node_numbered d is n l =
+    let u = is.used n l in
+    let q = from_In-map (statement d.terms) d.quads u.statement u.there in
+    mentioned_numbered d.terms n q.0 (All-In (IsInRange d.terms) d.quads q.0 is.draft.in_range q.1) (ap (mentions n) (sym q.2) ∙ u.mentioned)
+
+-- ---- the whole
+
+pub indexed : (d : Document) (numbers : List ℕ) (notes : List Mention) (index : List (List ℕ)) → AreDistinct d.terms → IsDocument d → Ascend d.quads
+    → length numbers ≡ length d.labels → NumbersNodes d.terms numbers (length d.terms)
+    → NotesPlaces (statements d) notes (length d.quads) → index ≡ map (noted_places notes) (numbers_below (length d.labels))
+    → IsIndexed d numbers index
+indexed d numbers notes index distinct is up count at noted made = record {
+  document = is;
+  distinct_terms = distinct;
+  ascend = up;
+  numbers_count = count;
+  numbers_are = λ n l. number n (node_numbered d is n l);
+  index_is = made ∙ map-numbers_below (noted_places notes) (places_of (statements d)) (length d.labels) (λ n l. noted n ∙ ap (λ k. places_before (statements d) k n) (sym (length-map d.quads (statement d.terms))));
+}
+  where
+    number : (n : ℕ) → Numbered d.terms n → slice_get d.terms (get_or numbers n 0) ≡ Some (Blank n)
+    number n k = at n k.0 k.1 k.2
+
+pub index_count : (d : Document) (numbers : List ℕ) (index : List (List ℕ)) → IsIndexed d numbers index → length index ≡ length d.labels
+index_count d numbers index i = ap length i.index_is ∙ length-map (numbers_below (length d.labels)) (places_of (statements d)) ∙ length-numbers_below (length d.labels)
+
+pub index_at : (d : Document) (numbers : List ℕ) (index : List (List ℕ)) → IsIndexed d numbers index → (n : ℕ) (places : List ℕ) → n < length d.labels → slice_get index n ≡ Some places → places ≡ places_of (statements d) n
+index_at d numbers index i n places l h = same (sym h ∙ ap (λ x. slice_get x n) i.index_is ∙ slice_get-map_numbers_below (places_of (statements d)) (length d.labels) n l)
+  where
+    same : Some places ≡ Some (places_of (statements d) n) → places ≡ places_of (statements d) n
+    same e = cc
+
+-- ---- whether a statement is there
+
+pub In-statement : (d : Document) (q : Quad) → AreDistinct d.terms → IsDocument d → IsInRange d.terms q → In (statement d.terms q) (statements d) → In q d.quads
+In-statement d q distinct is r h =
+    let f = from_In-map (statement d.terms) d.quads (statement d.terms q) h in
+    subst (λ x. In x d.quads) (sym (statement_injective d.terms distinct q f.0 r (All-In (IsInRange d.terms) d.quads f.0 is.draft.in_range f.1) f.2)) f.1
+
+pub has_statement : (d : Document) (q : Quad) (b : Bool) → AreDistinct d.terms → IsDocument d → IsTrue b ↔ In q d.quads → IsInRange d.terms q → IsTrue b ↔ In (statement d.terms q) (statements d)
+has_statement d q b distinct is has r = (λ t. In-map (statement d.terms) d.quads q (has.0 t), λ h. has.1 (In-statement d q distinct is r h))

@@ -1,0 +1,6 @@
+pub mod Numbers
+pub mod Parts
+pub mod NodeStarts
+pub mod Noting
+pub mod Searching
+pub mod Building

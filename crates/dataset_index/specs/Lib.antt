@@ -1,0 +1,5 @@
+pub mod QuadOrder
+pub mod Mentions
+pub mod Segments
+pub mod NodeTerms
+pub mod Indexed

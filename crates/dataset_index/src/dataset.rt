@@ -1,0 +1,127 @@
+ghost use Rattle.std.specs.Prelude.{◌≡◌, ◌<◌, ◌↔◌, Some, length, slice_get, All, IfOk, IsTrue, IsPermutation};
+ghost use Rattle.rdf_terms.specs.Lists.{In, AreDistinct, Permutes};
+ghost use Rattle.rdf_terms.specs.Dataset.{IsValid};
+ghost use Rattle.rdf_terms.specs.Document.{dataset, statement, statements, IsDocument, IsInRange};
+ghost use Rattle.rdf_terms.specs.declared.term.Term.TheVariants.{Blank};
+ghost use Rattle.dataset_index.specs.Mentions.{places_of};
+ghost use Rattle.dataset_index.specs.QuadOrder.{Ascend};
+
+use crate::mentions::note_all;
+use crate::node_index::NodeIndex;
+use crate::node_terms::node_terms;
+use rdf_terms::{Label, NoMemory, Parsed, Quad, TermTable};
+use std::alloc::Global;
+use std::marker::Model;
+
+/// The dataset of a document (RDF 1.1 Concepts, section 4), with its quads in order and an index of
+/// its nodes. Nodes are numbered from 0.
+#[derive(Drop)]
+pub struct Dataset {
+    parsed: Parsed,
+    quads: Vec<Quad>,
+    node_terms: Vec<u32>,
+    index: NodeIndex,
+}
+
+impl Model for Dataset {
+    ghost use Rattle.rdf_terms.specs.Document.{Document};
+    ghost use Rattle.dataset_index.specs.Indexed.{IsIndexed};
+
+    ghost Value = { Document };
+
+    ghost view = { λ d. record { terms = d.parsed.terms; quads = d.quads.items; labels = d.parsed.labels } };
+
+    ghost invariant = { λ d. IsIndexed (record { terms = d.parsed.terms; quads = d.quads.items; labels = d.parsed.labels }) d.node_terms.items d.index };
+}
+
+fn in_order(alloc: Global, quads: &[Quad]) -> Result<Vec<Quad>, NoMemory>
+    ensures permutes { IfOk result (λ sorted. IsPermutation quads.now sorted.items) }
+    ensures ascend { IfOk result (λ sorted. Ascend sorted.items) }
+{
+    let mut sorted = quads.to_vec(alloc)?;
+    sorted.sort_unstable();
+    Ok(sorted)
+}
+
+impl Dataset {
+    /// The dataset of the quads that were read, which are given up where memory is refused.
+    pub fn build(alloc: Global, parsed: Parsed) -> Result<Self, NoMemory>
+        ensures terms { IfOk result (λ d. d.terms ≡ parsed.terms) }
+        ensures labels { IfOk result (λ d. d.labels ≡ parsed.labels) }
+        ensures quads { IfOk result (λ d. Permutes parsed.quads d.quads) }
+        ensures statements { IfOk result (λ d. Permutes (statements parsed) (statements d)) }
+    {
+        let quads = in_order(alloc, parsed.quads())?;
+        let nodes = parsed.labels().len();
+        let node_terms = node_terms(alloc, parsed.terms(), nodes)?;
+        let notes = note_all(alloc, parsed.terms(), quads.as_slice())?;
+        let index = NodeIndex::build(alloc, nodes as u32, notes)?;
+        Ok(Dataset {
+            parsed,
+            quads,
+            node_terms,
+            index,
+        })
+    }
+
+    /// The number of blank nodes.
+    pub fn node_count(&self) -> u32
+        ensures count { result ≡ length self.now.labels }
+        ensures valid { IsValid (dataset self.now) }
+        ensures document { IsDocument self.now }
+    {
+        self.parsed.labels().len() as u32
+    }
+
+    /// All quads in ascending order, each once.
+    pub fn quads(&self) -> &[Quad]
+        ensures quads { result.now ≡ self.now.quads }
+        ensures ascend { Ascend self.now.quads }
+        ensures distinct { AreDistinct self.now.quads }
+        ensures in_range { All (IsInRange self.now.terms) self.now.quads }
+    {
+        self.quads.as_slice()
+    }
+
+    /// The places in `quads` of those that mention the node, as subject, object or graph name,
+    /// ascending and each once.
+    pub fn quads_of(&self, node: u32) -> &[u32]
+        requires { node < length self.now.labels }
+        ensures { result.now ≡ places_of (statements self.now) node }
+    {
+        self.index.of(node)
+    }
+
+    /// Whether the quad is in the dataset.
+    pub fn has(&self, quad: Quad) -> bool
+        ensures quad { IsTrue result ↔ In quad self.now.quads }
+        ensures statement { IsInRange self.now.terms quad → (IsTrue result ↔ In (statement self.now.terms quad) (statements self.now)) }
+    {
+        self.quads.as_slice().binary_search(&quad).is_ok()
+    }
+
+    /// What the document calls the node.
+    pub fn label(&self, node: u32) -> &Label
+        requires { node < length self.now.labels }
+        ensures label { slice_get self.now.labels node ≡ Some result.now }
+        ensures distinct { AreDistinct self.now.labels }
+    {
+        &self.parsed.labels()[node as usize]
+    }
+
+    /// The number of the node's term.
+    pub fn term_of(&self, node: u32) -> u32
+        requires { node < length self.now.labels }
+        ensures { slice_get self.now.terms result ≡ Some (Blank node) }
+    {
+        self.node_terms[node as usize]
+    }
+
+    /// The terms by number; each is a term of some quad.
+    pub fn terms(&self) -> &TermTable
+        ensures terms { result.now ≡ self.now.terms }
+        ensures distinct { AreDistinct self.now.terms }
+    {
+        self.parsed.terms()
+    }
+}

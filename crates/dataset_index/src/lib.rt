@@ -1,0 +1,10 @@
+//! The quads of a dataset in order, and the quads of each of its nodes.
+#![tactic(auto)]
+
+pub use dataset::Dataset;
+
+mod dataset;
+mod mention;
+mod mentions;
+mod node_index;
+mod node_terms;

@@ -1,0 +1,28 @@
+ghost use Rattle.std.specs.Prelude.{◌≡◌, ℕ, ◌<◌, Some, length, slice_get, IfOk, OnOk};
+ghost use Rattle.rdf_terms.specs.Lists.{AreDistinct};
+ghost use Rattle.rdf_terms.specs.declared.term.Term.TheVariants.{Blank};
+ghost use Rattle.dataset_index.specs.NodeTerms.{NumbersNodes};
+
+use crate::mentions::node_of;
+use rdf_terms::{NoMemory, TermTable};
+use std::alloc::Global;
+
+// The number of each node's term.
+pub(crate) fn node_terms(
+    alloc: Global,
+    terms: &TermTable,
+    nodes: usize,
+) -> Result<Vec<u32>, NoMemory>
+    requires { (n k : ℕ) → slice_get terms.now k ≡ Some (Blank n) → n < nodes }
+    ensures distinct { OnOk result (AreDistinct terms.now) }
+    ensures count { IfOk result (λ numbers. length numbers.items ≡ nodes) }
+    ensures numbers { IfOk result (λ numbers. NumbersNodes terms.now numbers.items (length terms.now)) }
+{
+    let mut numbers = vec![in alloc; 0; nodes]?;
+    for number in 0..terms.len() {
+        if let Some(node) = node_of(terms, number) {
+            numbers[node as usize] = number;
+        }
+    }
+    Ok(numbers)
+}
