@@ -87,3 +87,7 @@ pub Below-irreflexive : (xs : List ℕ) → ¬ (Below xs xs)
 Below-irreflexive [] h = h
 Below-irreflexive (x ∷ xs) (inl l) = omega arith
 Below-irreflexive (x ∷ xs) (inr h) = Below-irreflexive xs h.1
+
+pub Below-at_most : (xs ys zs : List ℕ) → Below xs ys → AtMost ys zs → Below xs zs
+Below-at_most xs ys zs b (inl e) = subst (Below xs) e b
+Below-at_most xs ys zs b (inr g) = Below-trans xs ys zs b g

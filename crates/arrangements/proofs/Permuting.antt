@@ -22,12 +22,11 @@ traded d x (y ∷ xs) (suc j) h =
 
 -- ---- what is left where one number is taken out once
 
-without : ℕ → List ℕ → List ℕ
+abbrev pub without : ℕ → List ℕ → List ℕ
 without x [] = []
 without x (y ∷ ys) = cond (eqb y x) ys (y ∷ without x ys)
 
-without-first : (x : ℕ) (ys : List ℕ) → without x (x ∷ ys) ≡ ys
-unfolding without
+pub without-first : (x : ℕ) (ys : List ℕ) → without x (x ∷ ys) ≡ ys
 without-first x ys = ap (λ t. cond t ys (x ∷ without x ys)) (eq-eqb x x refl)
 
 without-cons : (x y : ℕ) {xs ys : List ℕ} (t : Bool) → Permutes xs ys → Permutes (without x xs) (without x ys) → Permutes (cond t xs (y ∷ without x xs)) (cond t ys (y ∷ without x ys))
@@ -40,8 +39,7 @@ without-two true false y z xs ws e = Permutes-refl (z ∷ xs)
 without-two false true y z xs ws e = Permutes-refl (y ∷ xs)
 without-two false false y z xs ws e = permutes_swap
 
-without-Permutes : (x : ℕ) {xs ys : List ℕ} → Permutes xs ys → Permutes (without x xs) (without x ys)
-unfolding without
+pub without-Permutes : (x : ℕ) {xs ys : List ℕ} → Permutes xs ys → Permutes (without x xs) (without x ys)
 without-Permutes x permutes_nil = permutes_nil
 without-Permutes x (permutes_cons {x = y} p) = without-cons x y (eqb y x) p (without-Permutes x p)
 without-Permutes x (permutes_swap {x = y} {y = z} {xs = xs}) = without-two (eqb y x) (eqb z x) y z xs (without x xs) (λ a b. eqb-true y x a ∙ sym (eqb-true z x b))

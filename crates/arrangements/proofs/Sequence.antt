@@ -3,11 +3,7 @@ use Rattle.std.proofs.Common.{◌≡◌, ℕ, List, inl, inr, refl, sym, subst}
 use Rattle.rdf_terms.specs.Lists.{In, Permutes, permutes_trans}
 use Rattle.arrangements.specs.Arrangements.{GoesThrough, at_last, goes_on, Ascends, GoesThroughAll}
 use Rattle.rdf_terms.proofs.Permutations.{Permutes-refl, Permutes-sym}
-use Rattle.arrangements.proofs.Order.{Below, AtMost, is_before-Below, Below-is_before, AtMost-is_at_most, Below-trans, Below-irreflexive}
-
-Below-at_most : (xs ys zs : List ℕ) → Below xs ys → AtMost ys zs → Below xs zs
-Below-at_most xs ys zs b (inl e) = subst (Below xs) e b
-Below-at_most xs ys zs b (inr g) = Below-trans xs ys zs b g
+use Rattle.arrangements.proofs.Order.{AtMost, is_before-Below, Below-is_before, AtMost-is_at_most, Below-trans, Below-at_most, Below-irreflexive}
 
 both_at_most : (xs ys : List ℕ) → AtMost xs ys → AtMost ys xs → ys ≡ xs
 both_at_most xs ys (inl e) h = sym e

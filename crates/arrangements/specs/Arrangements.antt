@@ -37,3 +37,7 @@ pub record AreAllArrangements (bag : List ℕ) (all : List (List ℕ)) : Type 0 
 -- from the first arrangement of a bag on, the steps up to the last come by all its arrangements
 abbrev pub GoesThroughAll : Type 0
 GoesThroughAll = (bag xs : List ℕ) (all : List (List ℕ)) → IsFirst bag xs → GoesThrough xs all → AreAllArrangements bag all
+
+-- each bag has a first arrangement, and from it the steps come to a last
+abbrev pub ComesToALast : Type 0
+ComesToALast = (bag : List ℕ) → (xs : List ℕ) × (all : List (List ℕ)) × IsFirst bag xs × GoesThrough xs all
