@@ -1,0 +1,129 @@
+// The shelf and the sinks: those in memory fail at the calls they are told, and those over std do what std does.
+use outside::{Failed, FileShelf, MemShelf, MemSink, Shelf, Sink, StdSink};
+use std::alloc::Global;
+use std::test::Fail;
+use std::{fs, io};
+
+fn numbers(alloc: Global, failing: &[u64]) -> Result<Vec<u64>, Fail> {
+    Ok(failing.to_vec(alloc)?)
+}
+
+fn one_file(alloc: Global, name: &str, text: &str) -> Result<Vec<(String, Vec<u8>)>, Fail> {
+    let mut files = Vec::new(alloc);
+    let bytes = text.as_bytes().to_vec(alloc)?;
+    files.push((String::from_str(alloc, name)?, bytes))?;
+    Ok(files)
+}
+
+// Reads a file in calls of `next` with this buffer, and says what each call answered.
+fn counts<S: Shelf>(
+    alloc: Global,
+    shelf: &mut S,
+    name: &str,
+    buf: &mut [u8],
+) -> Result<Vec<Result<usize, Failed>>, Fail> {
+    let mut answers = Vec::new(alloc);
+    if shelf.start(name).is_err() {
+        answers.push(Err(Failed))?;
+        return Ok(answers);
+    }
+    for _ in 0..8 {
+        let answer = shelf.next(name, buf);
+        answers.push(answer)?;
+        if answer == Ok(0) || answer.is_err() {
+            break;
+        }
+    }
+    Ok(answers)
+}
+
+#[test]
+fn a_shelf_in_memory_gives_pieces_and_fails_where_told(rt: HostRuntime) -> Result<(), Fail> {
+    let alloc = rt.alloc();
+    let cases: [(usize, &[u64], &str, &[Result<usize, Failed>]); 6] = [
+        (3, &[], "f", &[Ok(3), Ok(3), Ok(1), Ok(0)]),
+        (9, &[], "f", &[Ok(4), Ok(3), Ok(0)]),
+        (9, &[], "g", &[Err(Failed)]),
+        (9, &[0], "f", &[Err(Failed)]),
+        (9, &[2, 7], "f", &[Ok(4), Err(Failed)]),
+        (9, &[3], "f", &[Ok(4), Ok(3), Err(Failed)]),
+    ];
+    for (piece, failing, name, want) in cases {
+        let files = one_file(alloc, "f", "abcdefg")?;
+        let mut shelf = MemShelf::new(files, piece, numbers(alloc, failing)?);
+        let mut buf = [0u8; 4];
+        let answers = counts(alloc, &mut shelf, name, &mut buf)?;
+        assert_eq!(rt; answers.as_slice(), want, "{piece} {name}");
+    }
+    Ok(())
+}
+
+#[test]
+fn a_sink_in_memory_takes_pieces_and_fails_where_told(rt: HostRuntime) -> Result<(), Fail> {
+    let alloc = rt.alloc();
+    let cases: [(usize, usize, &[u64], [Result<usize, Failed>; 3], &str); 5] = [
+        (9, 2, &[], [Ok(2), Ok(2), Ok(2)], "ababab"),
+        (9, 4, &[], [Ok(3), Ok(3), Ok(3)], "abcabcabc"),
+        (5, 4, &[], [Ok(3), Ok(2), Err(Failed)], "abcab"),
+        (9, 4, &[1], [Ok(3), Err(Failed), Ok(3)], "abcabc"),
+        (0, 4, &[], [Err(Failed), Err(Failed), Err(Failed)], ""),
+    ];
+    for (room, piece, failing, want, taken) in cases {
+        let mut sink = MemSink::new(alloc, room, piece, numbers(alloc, failing)?)?;
+        for answer in want {
+            assert_eq!(rt; sink.put(b"abc"), answer, "{room} {piece}");
+        }
+        assert_eq!(rt; sink.bytes(), taken.as_bytes());
+        assert_eq!(rt; sink.put(b""), Ok(0));
+    }
+    Ok(())
+}
+
+#[test]
+fn a_file_is_read_and_a_missing_one_is_a_fault(rt: HostRuntime) -> Result<(), Fail> {
+    let alloc = rt.alloc();
+    let mut path = std::env::temp_dir(&rt)?;
+    path.push("rdfc_outside_shelf.txt")?;
+    fs::write(&rt, path.as_path(), "abcdefg")?;
+    let mut shelf = FileShelf::new(&rt);
+    let mut buf = [0u8; 4];
+    let answers = counts(alloc, &mut shelf, path.as_str(), &mut buf)?;
+    assert_eq!(rt; answers.as_slice(), [Ok(4), Ok(3), Ok(0)].as_slice());
+    assert_eq!(rt; buf.as_slice(), b"efgd".as_slice());
+    fs::remove_file(&rt, path.as_path())?;
+    assert_eq!(rt; shelf.start(path.as_str()), Err(Failed));
+    Ok(())
+}
+
+// A writer that takes nothing.
+#[derive(Drop)]
+struct Full;
+
+impl io::Write for Full {
+    fn write(&mut self, _buf: &[u8]) -> io::Result<usize> {
+        Ok(0)
+    }
+
+    fn flush(&mut self) -> io::Result<()> {
+        Ok(())
+    }
+}
+
+#[test]
+fn a_writer_of_std_gets_the_bytes_and_a_full_one_is_a_fault(rt: HostRuntime) -> Result<(), Fail> {
+    let mut path = std::env::temp_dir(&rt)?;
+    path.push("rdfc_outside_sink.txt")?;
+    let mut sink = StdSink::new(fs::create(&rt, path.as_path())?);
+    assert_eq!(rt; sink.put(b"abc"), Ok(3));
+    assert_eq!(rt; sink.put(b""), Ok(0));
+    assert_eq!(rt; sink.put(b"de"), Ok(2));
+    assert_eq!(rt;
+        fs::read(&rt, path.as_path())?.as_slice(),
+        b"abcde".as_slice()
+    );
+    fs::remove_file(&rt, path.as_path())?;
+    let mut full = StdSink::new(Full);
+    assert_eq!(rt; full.put(b"abc"), Err(Failed));
+    assert_eq!(rt; full.put(b""), Ok(0));
+    Ok(())
+}

@@ -1,0 +1,13 @@
+//! Worked examples: what the program and the public calls of its crates answer to small inputs.
+#![tactic(auto)]
+
+#[cfg(test)]
+mod arranged;
+#[cfg(test)]
+mod edges;
+#[cfg(test)]
+mod issuers;
+#[cfg(test)]
+mod references;
+#[cfg(test)]
+mod runs;
