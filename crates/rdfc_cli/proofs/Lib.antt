@@ -2,4 +2,4 @@ pub mod Reading
 pub mod Putting
 pub mod Decimals
 pub mod Noting
-pub mod Nodeless
+pub mod NoNodes

@@ -1,59 +1,78 @@
--- What a run of a command answers, and what it has written.
-use Rattle.std.specs.Prelude.{◌≡◌, ℕ, ◌<◌, List, [], length, Option, IfSome}
+-- What a run answers, what it writes and why: a relation between the files, the sinks and the status.
+use Rattle.std.specs.Prelude.{◌≡◌, ℕ, ◌<◌, ◌≤◌, [], length, Option, IfSome}
 use Rattle.std.specs.Io.KnownBytes.{Appends}
-use Rattle.outside.specs.Faults.{Rose}
 use Rattle.rdf_terms.specs.Lists.{Text}
-use Rattle.rdf_terms.specs.Terms.{Statement}
-use Rattle.rdf_terms.specs.CanonicalForm.{canonical_nquads, issued_names}
+use Rattle.rdf_terms.specs.Dataset.{Dataset}
+use Rattle.rdf_terms.specs.CanonicalForm.{issued_names, canonical_nquads}
 use Rattle.rdf_terms.specs.declared.term.Prefix.TheVariants.{Canonical}
+use Rattle.outside.specs.Faults.{Rose}
 use Rattle.nquads_reader.specs.Lines.{lines_of}
 use Rattle.nquads_reader.specs.Document.{IsNQuads, IsLeastOutside}
 use Rattle.rdfc_cli.specs.Puts.{IsCutShort}
 use Rattle.rdfc_cli.specs.declared.files.TheConstants.{FILE_LIMIT}
+use Rattle.rdfc_cli.specs.declared.words.Task.{Task}
+use Rattle.rdfc_cli.specs.declared.words.Task.TheVariants.{Canon}
 use Rattle.rdfc_cli.specs.declared.status.Status.{Status}
 use Rattle.rdfc_cli.specs.declared.status.Status.TheVariants.{Done, Usage, Refused, ReadFault, WriteFault, NoMemory}
 use Rattle.rdfc_cli.specs.declared.status.Cause.{Cause}
 use Rattle.rdfc_cli.specs.declared.status.Cause.TheVariants.{TooLong, NotYet}
 
--- the text is the canonical form of the dataset that the bytes of a document state; the dataset has no blank node
-pub record IsCanonicalForm (bytes text : Text) : Type 0 where
-  pub statements : List Statement
-  pub states : IsNQuads bytes statements
-  pub text_is : text ≡ canonical_nquads (record { nodes = 0; statements = statements }) (issued_names Canonical [])
+-- ---- an accepted file and its text
 
--- why the bytes of a file are refused
+-- a file with these bytes is read, and states this dataset; no blank node can be read so far
+pub record Accepts (bytes : Text) (D : Dataset) : Type 0 where
+  pub within : length bytes ≤ FILE_LIMIT
+  pub reads : IsNQuads bytes D.statements
+  pub no_nodes : D.nodes ≡ 0
+
+-- the text of a task for a dataset
+abbrev pub text_of : Task → Dataset → Text
+text_of Canon D = canonical_nquads D (issued_names Canonical [])
+
+-- the text of the task for a file with these bytes
+pub record IsOutput (task : Task) (bytes text : Text) : Type 0 where
+  pub D : Dataset
+  pub accepts : Accepts bytes D
+  pub text_is : text ≡ text_of task D
+
+-- ---- why a file is refused
+
+-- the causes exclude one another, and none of them holds of a file that is accepted
 abbrev pub IsCause : Text → Cause → Type 0
 IsCause bytes TooLong = FILE_LIMIT < length bytes
-IsCause bytes (NotYet line) = IsLeastOutside (lines_of bytes) line
+IsCause bytes (NotYet line) = (length bytes ≤ FILE_LIMIT) × IsLeastOutside (lines_of bytes) line
 
--- why a file of these bytes has no text
-abbrev pub IsTextReason : Text → Status → Type 0
-IsTextReason bytes Done = ⊥
-IsTextReason bytes Usage = ⊥
-IsTextReason bytes (Refused refusal) = (refusal.file ≡ 0) × IsCause bytes refusal.cause
-IsTextReason bytes (ReadFault file) = ⊥
-IsTextReason bytes WriteFault = ⊥
-IsTextReason bytes NoMemory = Unit {0}
+-- ---- the answer of a command
 
--- why there is no text: told is the file, and its faults are counted before and now
-abbrev pub IsReason : Option Text → ℕ → ℕ → Status → Type 0
-IsReason told before now Done = ⊥
-IsReason told before now Usage = ⊥
-IsReason told before now (Refused refusal) = (refusal.file ≡ 0) × IfSome told (λ bytes. IsCause bytes refusal.cause)
-IsReason told before now (ReadFault file) = (file ≡ 0) × Rose before now
-IsReason told before now WriteFault = ⊥
-IsReason told before now NoMemory = Unit {0}
+-- the file as it is told, and the count of failed calls with its word, before and after the run
+pub record FileSeen : Type 0 where
+  pub told : Option Text
+  pub faults : ℕ
+  pub faults_now : ℕ
 
--- what was taken has grown by the canonical form of the file, and by nothing else
-abbrev pub WritesForm : Option Text → Option Text → Option Text → Type 0
-WritesForm told before now = IfSome told (λ bytes. (text : Text) × IsCanonicalForm bytes text × Appends before now text)
+-- the file of this name on a shelf, by what the shelf tells and counts
+abbrev pub seen : {S : Type 0} → (S → Text → Option Text) → (S → Text → ℕ) → S → S → Text → FileSeen
+seen told faults old new name = record { told = told old name; faults = faults old name; faults_now = faults new name }
 
--- what was taken has grown by a proper prefix of the canonical form of the file
-abbrev pub CutsForm : Option Text → Option Text → Option Text → Type 0
-CutsForm told before now = IfSome told (λ bytes. (text : Text) × IsCanonicalForm bytes text × IsCutShort before now text)
+-- what ends a run before anything is put
+abbrev pub Stops : FileSeen → Status → Type 0
+Stops file Done = ⊥
+Stops file Usage = ⊥
+Stops file (Refused refusal) = (refusal.file ≡ 0) × IfSome file.told (λ bytes. IsCause bytes refusal.cause)
+Stops file (ReadFault i) = (i ≡ 0) × Rose file.faults file.faults_now
+Stops file WriteFault = ⊥
+Stops file NoMemory = Unit {0}
 
--- what holds with each answer to `canon`: the whole form was written, or a prefix of it where the sink failed, or nothing was put and the answer has its cause
-abbrev pub Answers : {K : Type 0} → (K → Option Text) → (K → ℕ) → Option Text → ℕ → ℕ → K → K → Status → Type 0
-Answers taken faults told before now old new Done = WritesForm told (taken old) (taken new)
-Answers taken faults told before now old new WriteFault = CutsForm told (taken old) (taken new) × Rose (faults old) (faults new)
-Answers taken faults told before now old new status = (new ≡ old) × IsReason told before now status
+module _ {K : Type 0} (taken : K → Option Text) (faults : K → ℕ) where
+  -- the sink was put the text of the task, which is known where the file is told
+  pub record Writes (task : Task) (file : FileSeen) (Put : Text → Type 0) : Type 0 where
+    pub text : Text
+    pub is_output : IfSome file.told (λ bytes. IsOutput task bytes text)
+    pub put : Put text
+
+  -- With `Done` the whole text was taken, and with `WriteFault` a proper prefix of it, where a call on the sink failed.
+  -- With each other status nothing was put.
+  abbrev pub Answers : Task → FileSeen → K → K → Status → Type 0
+  Answers task file old new Done = Writes task file (Appends (taken old) (taken new))
+  Answers task file old new WriteFault = Rose (faults old) (faults new) × Writes task file (IsCutShort (taken old) (taken new))
+  Answers task file old new status = (new ≡ old) × Stops file status

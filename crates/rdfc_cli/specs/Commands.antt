@@ -17,3 +17,9 @@ IsFileWord (first ∷ more) = first ≢ 45
 pub record IsCommand (words : List Text) (task : Task) (file : Text) : Type 0 where
   pub spelled : words ≡ word_of task ∷ file ∷ []
   pub is_file : IsFileWord file
+
+-- the file's word, where the words are a command
+abbrev pub file_word : List Text → Text
+file_word [] = []
+file_word (command ∷ []) = []
+file_word (command ∷ file ∷ more) = file
