@@ -5,3 +5,11 @@ mod Lines
 mod Pieces
 mod SortedLines
 mod Placing
+mod Splitting
+mod Unescaping
+mod TermTexts
+mod LineTexts
+mod NameTexts
+mod Matching
+mod Partners
+mod TextTells

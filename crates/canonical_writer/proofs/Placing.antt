@@ -1,13 +1,13 @@
 -- Places in a list of distinct numbers.
-use Rattle.std.proofs.Common.{◌≡◌, ◌≢◌, ℕ, suc, ◌+◌, ◌<◌, ◌≤◌, ◌==◌, Bool, true, false, if◌then◌else◌, List, [], ◌∷◌, Option, Some, None, IsSome, length, get_or, set, refl, sym, ap, subst, ◌∙◌, inl, inr, arith, below_more, eq-eqb, true≢false}
-use Rattle.std.specs.List.{IsDistinct, AllByRecursion}
-use Rattle.std.proofs.lemmas.Bool.{eqb-true, ne_eqb}
+use Rattle.std.proofs.Common.{◌≡◌, ◌≢◌, ℕ, suc, ◌+◌, ◌<◌, ◌≤◌, ◌==◌, ◌||◌, ◌⊎◌, Bool, true, false, if◌then◌else◌, List, [], ◌∷◌, Option, Some, None, IsSome, length, get_or, set, refl, sym, ap, subst, ◌∙◌, inl, inr, arith, below_more, eq-eqb, true≢false}
+use Rattle.std.specs.List.{IsDistinct, AllByRecursion, list_any}
+use Rattle.std.proofs.lemmas.Bool.{eqb-true, eqb-false, ne_eqb}
 use Rattle.std.proofs.lemmas.List.{get_or-set_other, get_or-set_same}
-use Rattle.std.proofs.lemmas.Map.Steps.{length-le_from_distinct_below}
+use Rattle.std.proofs.lemmas.Map.Steps.{length-le_from_distinct_below, le-length_from_below}
 use Rattle.std.proofs.lemmas.Option.{slice_get-get_or, get_or_from_slice_get, slice_get_within}
 use Rattle.rdf_terms.specs.Lists.{In, AreDistinct}
 use Rattle.rdf_terms.specs.CanonicalForm.{place_of, after_first}
-use Rattle.rdf_terms.proofs.Membership.{one_place, place_in, present}
+use Rattle.rdf_terms.proofs.Membership.{one_place, place_in, present, In-at}
 use Rattle.canonical_writer.specs.Places.{TellsPlaces}
 
 -- ---- the place of a number
@@ -68,3 +68,37 @@ told_more list places i d h room told =
     let ne : get_or list k 0 ≢ get_or list i 0 = λ e. absurd (let s : k ≡ i = one_number list k i d (omega arith) h e in omega (arith, s)) in
     get_or-set_other places (get_or list i 0) (get_or list k 0) i 0 ne ∙ told k lt)
     (get_or-set_same places (get_or list i 0) i 0 room)
+
+-- ---- which numbers have a place
+
+pub place-here : (xs : List ℕ) (n : ℕ) → In n xs → (k : ℕ) × (place_of xs n ≡ Some k)
+place-here [] n h = absurd h
+place-here (x ∷ xs) n h = by (x == n) refl h (place-here xs n)
+  where
+    by : (b : Bool) → (x == n) ≡ b → (n ≡ x) ⊎ In n xs → (In n xs → (k : ℕ) × (place_of xs n ≡ Some k)) → (k : ℕ) × ((if b then Some 0 else after_first (place_of xs n)) ≡ Some k)
+    by true is h rest = (0, refl)
+    by false is (inl e) rest = absurd (eqb-false x n is (sym e))
+    by false is (inr h) rest = let p = rest h in (suc p.0, ap after_first p.1)
+
+pub In-get_or : (xs : List ℕ) (k : ℕ) → k < length xs → In (get_or xs k 0) xs
+In-get_or xs k h = In-at xs k (get_or xs k 0) (slice_get-get_or xs k 0 h)
+
+-- the place of the number that stands at a place
+pub place-get_or : (xs : List ℕ) (k : ℕ) → AreDistinct xs → k < length xs → place_of xs (get_or xs k 0) ≡ Some k
+place-get_or xs k d h =
+    let p = place-here xs (get_or xs k 0) (In-get_or xs k h) in
+    let q = place-found xs (get_or xs k 0) p.0 p.1 in
+    p.1 ∙ ap Some (one_number xs p.0 k d q.0 h q.1)
+
+-- numbers that are all there make a list at least so long
+pub length-all_below : (xs : List ℕ) (n : ℕ) → ((q : ℕ) → q < n → In q xs) → n ≤ length xs
+length-all_below xs n all = le-length_from_below xs n (λ q h. passes q xs (all q h))
+  where
+    passes : (q : ℕ) (ys : List ℕ) → In q ys → list_any (λ y. q == y) ys ≡ true
+    passes q [] h = absurd h
+    passes q (y ∷ ys) h = step (q == y) refl h (passes q ys)
+      where
+        step : (b : Bool) → (q == y) ≡ b → (q ≡ y) ⊎ In q ys → (In q ys → list_any (λ y. q == y) ys ≡ true) → (b || list_any (λ y. q == y) ys) ≡ true
+        step true is h rest = refl
+        step false is (inl e) rest = absurd (eqb-false q y is e)
+        step false is (inr h) rest = rest h

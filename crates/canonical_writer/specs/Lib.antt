@@ -2,3 +2,4 @@ pub mod Names
 pub mod Escapes
 pub mod Pieces
 pub mod Places
+pub mod Determined

@@ -7,6 +7,7 @@ pub use names::{DegreeNames, Names, NumberNames};
 pub use sorted::write_sorted;
 
 mod escape;
+pub mod laws;
 mod line;
 mod list_names;
 mod names;

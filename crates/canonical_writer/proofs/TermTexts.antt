@@ -1,0 +1,127 @@
+-- A term is known by its text and the space behind it, and the text has no line feed.
+use Rattle.std.proofs.Common.{◌≡◌, ◌≢◌, ℕ, Bool, true, false, if◌then◌else◌, List, [], ◌∷◌, ◌++◌, All, refl, sym, ap, subst, ◌∙◌, arith, append_assoc, true≢false}
+use Rattle.std.specs.Char.{is_ascii_alphabetic, is_ascii_alphanumeric}
+use Rattle.std.specs.List.{flat_map}
+use Rattle.std.specs.Str.{bytes_eq}
+use Rattle.std.proofs.lemmas.List.Elements.{All-head, All-tail, All-cons, All-append, All-weaker}
+use Rattle.std.proofs.lemmas.Slice.Eq.{bytes_eq-Decides}
+use Rattle.rdf_terms.specs.Lists.{Text}
+use Rattle.rdf_terms.specs.Terms.{IsAbsoluteIri, IsLanguageTag, IsSubtag, IsValidKind, IsValidTerm, is_excluded, behind_dashes}
+use Rattle.rdf_terms.specs.CanonicalForm.{Naming, canonical_term, canonical_suffix, escaped, xsd_string}
+use Rattle.rdf_terms.specs.declared.term.Term.{Term}
+use Rattle.rdf_terms.specs.declared.term.Term.TheVariants.{Iri, Blank, Literal}
+use Rattle.rdf_terms.specs.declared.term.LiteralKind.{LiteralKind}
+use Rattle.rdf_terms.specs.declared.term.LiteralKind.TheVariants.{Typed, Tagged}
+use Rattle.canonical_writer.specs.Determined.{HasPlainNames, AgreeTerms}
+use Rattle.canonical_writer.proofs.Splitting.{head_of, tail_of, All-none, split_at}
+use Rattle.canonical_writer.proofs.Unescaping.{same_string, no_line_feed, feedless_byte}
+
+-- ---- bytes that stand in no IRI, tag or name
+
+iri_without : (d : ℕ) → is_excluded d ≡ true → (t : Text) → IsAbsoluteIri t → All (λ c. c ≢ d) t
+iri_without d x t v =
+    All-weaker (λ c. is_excluded c ≡ false) (λ c. c ≢ d) (λ c h e. true≢false (sym x ∙ subst (λ k. is_excluded k ≡ false) e h)) t v.allowed
+
+module _ (d : ℕ) (no_letter : is_ascii_alphabetic d ≡ false) (neither : is_ascii_alphanumeric d ≡ false) (no_dash : 45 ≢ d) where
+  plain_without : (t : Text) → All (λ c. is_ascii_alphanumeric c ≡ true) t → All (λ c. c ≢ d) t
+  plain_without t p = All-weaker (λ c. is_ascii_alphanumeric c ≡ true) (λ c. c ≢ d) (λ c h e. true≢false (sym h ∙ (ap is_ascii_alphanumeric e ∙ neither))) t p
+
+  subtags_without : (ts : List Text) → All IsSubtag ts → All (λ c. c ≢ d) (behind_dashes ts)
+  subtags_without [] h = All-none _
+  subtags_without (t ∷ ts) h =
+      All-cons (λ c. c ≢ d) 45 _ no_dash
+      (All-append (λ c. c ≢ d) t (behind_dashes ts) (plain_without t (All-head IsSubtag t ts h).alphanumeric) (subtags_without ts (All-tail IsSubtag t ts h)))
+
+  tag_without : (t : Text) → IsLanguageTag t → All (λ c. c ≢ d) t
+  tag_without t v =
+      let first = All-weaker (λ c. is_ascii_alphabetic c ≡ true) (λ c. c ≢ d) (λ c h e. true≢false (sym h ∙ (ap is_ascii_alphabetic e ∙ no_letter))) v.primary v.is_primary.letters in
+      subst (All (λ c. c ≢ d)) (sym v.spelled) (All-append (λ c. c ≢ d) v.primary (behind_dashes v.subtags) first (subtags_without v.subtags v.are_subtags))
+
+-- ---- what stands behind a string
+
+pub data Suffix : LiteralKind → Text → Type 0 where
+  of_string : (a : Text) → a ≡ xsd_string → Suffix (Typed a) []
+  of_type : (a : Text) → Suffix (Typed a) (94 ∷ 94 ∷ 60 ∷ (a ++ 62 ∷ []))
+  of_tag : (t : Text) → Suffix (Tagged t) (64 ∷ t)
+
+suffix_of : (k : LiteralKind) → Suffix k (canonical_suffix k)
+suffix_of (Tagged t) = of_tag t
+suffix_of (Typed a) = by (bytes_eq a xsd_string) refl
+  where
+    by : (b : Bool) → bytes_eq a xsd_string ≡ b → Suffix (Typed a) (if b then [] else 94 ∷ 94 ∷ 60 ∷ (a ++ 62 ∷ []))
+    by true e = of_string a ((bytes_eq-Decides a xsd_string).0 e)
+    by false e = of_type a
+
+type_regrouped : (a r : Text) → (94 ∷ 94 ∷ 60 ∷ (a ++ 62 ∷ [])) ++ 32 ∷ r ≡ 94 ∷ 94 ∷ 60 ∷ (a ++ 62 ∷ 32 ∷ r)
+type_regrouped a r = ap (λ t. 94 ∷ 94 ∷ 60 ∷ t) (append_assoc a (62 ∷ []) (32 ∷ r))
+
+same_suffix : (k l : LiteralKind) (v w r s : Text) → Suffix k v → Suffix l w → IsValidKind k → IsValidKind l → v ++ 32 ∷ r ≡ w ++ 32 ∷ s → (k ≡ l) × (r ≡ s)
+same_suffix k l v w r s (of_string a p) (of_string b q) f g e = (ap Typed (p ∙ sym q), ap tail_of e)
+same_suffix k l v w r s (of_string a p) (of_type b) f g e = absurd (omega (arith, ap head_of e))
+same_suffix k l v w r s (of_string a p) (of_tag b) f g e = absurd (omega (arith, ap head_of e))
+same_suffix k l v w r s (of_type a) (of_string b q) f g e = absurd (omega (arith, ap head_of e))
+same_suffix k l v w r s (of_type a) (of_type b) f g e =
+    let h = ap (λ t. tail_of (tail_of (tail_of t))) (sym (type_regrouped a r) ∙ (e ∙ type_regrouped b s)) in
+    let p = split_at 62 a b (32 ∷ r) (32 ∷ s) (iri_without 62 refl a f) (iri_without 62 refl b g) h in
+    (ap Typed p.0, ap tail_of p.1)
+same_suffix k l v w r s (of_type a) (of_tag b) f g e = absurd (omega (arith, ap head_of e))
+same_suffix k l v w r s (of_tag a) (of_string b q) f g e = absurd (omega (arith, ap head_of e))
+same_suffix k l v w r s (of_tag a) (of_type b) f g e = absurd (omega (arith, ap head_of e))
+same_suffix k l v w r s (of_tag a) (of_tag b) f g e =
+    let no_dash : 45 ≢ 32 = λ h. absurd (omega (arith, h)) in
+    let p = split_at 32 a b r s (tag_without 32 refl refl no_dash a f) (tag_without 32 refl refl no_dash b g) (ap tail_of e) in
+    (ap Tagged p.0, p.1)
+
+-- ---- terms
+
+iri_regrouped : (a r : Text) → (60 ∷ (a ++ 62 ∷ [])) ++ 32 ∷ r ≡ 60 ∷ (a ++ 62 ∷ 32 ∷ r)
+iri_regrouped a r = ap (λ t. 60 ∷ t) (append_assoc a (62 ∷ []) (32 ∷ r))
+
+string_regrouped : (a v r : Text) → (34 ∷ (a ++ 34 ∷ v)) ++ 32 ∷ r ≡ 34 ∷ (a ++ 34 ∷ (v ++ 32 ∷ r))
+string_regrouped a v r = ap (λ t. 34 ∷ t) (append_assoc a (34 ∷ v) (32 ∷ r))
+
+module _ (ν ν' : Naming) (m n : ℕ) (plain : HasPlainNames m ν) (plain' : HasPlainNames n ν') where
+  pub same_term : (t u : Term) (r s : Text) → IsValidTerm m t → IsValidTerm n u → canonical_term ν t ++ 32 ∷ r ≡ canonical_term ν' u ++ 32 ∷ s → AgreeTerms ν ν' t u × (r ≡ s)
+  same_term (Iri a) (Iri b) r s f g e =
+      let h = ap tail_of (sym (iri_regrouped a r) ∙ (e ∙ iri_regrouped b s)) in
+      let p = split_at 62 a b (32 ∷ r) (32 ∷ s) (iri_without 62 refl a f) (iri_without 62 refl b g) h in
+      (p.0, ap tail_of p.1)
+  same_term (Iri a) (Blank j) r s f g e = absurd (omega (arith, ap head_of e))
+  same_term (Iri a) (Literal l) r s f g e = absurd (omega (arith, ap head_of e))
+  same_term (Blank i) (Iri b) r s f g e = absurd (omega (arith, ap head_of e))
+  same_term (Blank i) (Blank j) r s f g e =
+      let no_dash : 45 ≢ 32 = λ h. absurd (omega (arith, h)) in
+      split_at 32 (ν i) (ν' j) r s (plain_without 32 refl refl no_dash (ν i) (plain i f)) (plain_without 32 refl refl no_dash (ν' j) (plain' j g)) (ap (λ t. tail_of (tail_of t)) e)
+  same_term (Blank i) (Literal l) r s f g e = absurd (omega (arith, ap head_of e))
+  same_term (Literal k) (Iri b) r s f g e = absurd (omega (arith, ap head_of e))
+  same_term (Literal k) (Blank j) r s f g e = absurd (omega (arith, ap head_of e))
+  same_term (Literal k) (Literal l) r s f g e =
+      let h = ap tail_of (sym (string_regrouped (flat_map escaped k.lexical) (canonical_suffix k.kind) r) ∙ (e ∙ string_regrouped (flat_map escaped l.lexical) (canonical_suffix l.kind) s)) in
+      let p = same_string k.lexical l.lexical _ _ h in
+      let q = same_suffix k.kind l.kind (canonical_suffix k.kind) (canonical_suffix l.kind) r s (suffix_of k.kind) (suffix_of l.kind) f.1 g.1 p.1 in
+      (λ i. record { lexical = p.0 i; kind = q.0 i }, q.1)
+
+-- the term begins with no dot
+pub no_dot : (ν : Naming) (u : Term) (x : Text) → head_of (canonical_term ν u ++ x) ≢ 46
+no_dot ν (Iri a) x h = absurd (omega (arith, h))
+no_dot ν (Blank j) x h = absurd (omega (arith, h))
+no_dot ν (Literal l) x h = absurd (omega (arith, h))
+
+-- ---- no line feed
+
+closed-no_feed : (a : Text) → IsAbsoluteIri a → All (λ c. c ≢ 10) (60 ∷ (a ++ 62 ∷ []))
+closed-no_feed a f =
+    feedless_byte 60 refl (a ++ 62 ∷ []) (All-append (λ c. c ≢ 10) a (62 ∷ []) (iri_without 10 refl a f) (feedless_byte 62 refl [] (All-none _)))
+
+suffix-no_feed : (k : LiteralKind) (v : Text) → Suffix k v → IsValidKind k → All (λ c. c ≢ 10) v
+suffix-no_feed k v (of_string a p) f = All-none _
+suffix-no_feed k v (of_type a) f = feedless_byte 94 refl (94 ∷ 60 ∷ (a ++ 62 ∷ [])) (feedless_byte 94 refl (60 ∷ (a ++ 62 ∷ [])) (closed-no_feed a f))
+suffix-no_feed k v (of_tag t) f = let no_dash : 45 ≢ 10 = λ h. absurd (omega (arith, h)) in feedless_byte 64 refl t (tag_without 10 refl refl no_dash t f)
+
+pub term-no_feed : (ν : Naming) (n : ℕ) → HasPlainNames n ν → (t : Term) → IsValidTerm n t → All (λ c. c ≢ 10) (canonical_term ν t)
+term-no_feed ν n plain (Iri a) f = closed-no_feed a f
+term-no_feed ν n plain (Blank j) f =
+    let no_dash : 45 ≢ 10 = λ h. absurd (omega (arith, h)) in feedless_byte 95 refl (58 ∷ ν j) (feedless_byte 58 refl (ν j) (plain_without 10 refl refl no_dash (ν j) (plain j f)))
+term-no_feed ν n plain (Literal l) f =
+    feedless_byte 34 refl (flat_map escaped l.lexical ++ 34 ∷ canonical_suffix l.kind) (All-append (λ c. c ≢ 10) (flat_map escaped l.lexical) (34 ∷ canonical_suffix l.kind) (no_line_feed l.lexical)
+    (feedless_byte 34 refl (canonical_suffix l.kind) (suffix-no_feed l.kind (canonical_suffix l.kind) (suffix_of l.kind) f.1)))
