@@ -13,3 +13,4 @@ mod NameTexts
 mod Matching
 mod Partners
 mod TextTells
+pub mod NamedNodes
