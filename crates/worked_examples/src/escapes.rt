@@ -1,0 +1,106 @@
+//! Canonical lines (RDF Dataset Canonicalization, appendix A): the escapes of strings, and what is
+//! written behind them.
+
+use canonical_writer::{NumberNames, push_line};
+use rdf_terms::{Literal, LiteralKind, NoMemory, Quad, Term, TermTable, TermText};
+use std::alloc::Global;
+use std::test::Fail;
+
+const STRING: &str = "http://www.w3.org/2001/XMLSchema#string";
+
+fn number_of(terms: &mut TermTable, term: Term) -> Result<u32, NoMemory> {
+    if terms.len() == u32::MAX {
+        return Err(NoMemory);
+    }
+    terms.intern(term)
+}
+
+// The line of a quad with this object; nothing if a term has no number.
+#[tactic(auto, using(canonical_writer::proofs::NamedNodes::has_numbered_names))]
+fn line_of(alloc: Global, object: Literal) -> Result<Vec<u8>, NoMemory> {
+    let mut terms = TermTable::new(alloc);
+    let s = number_of(&mut terms, Term::Iri(TermText::copy(alloc, "http://e/s")?))?;
+    let p = number_of(&mut terms, Term::Iri(TermText::copy(alloc, "http://e/p")?))?;
+    let o = number_of(&mut terms, Term::Literal(object))?;
+    let mut line = Vec::new(alloc);
+    let quad = Quad { s, p, o, g: None };
+    if s < terms.len() && p < terms.len() && o < terms.len() {
+        push_line(&mut line, &terms, quad, &NumberNames)?;
+    }
+    Ok(line)
+}
+
+fn typed(alloc: Global, lexical: &str, iri: &str) -> Result<Literal, NoMemory> {
+    Ok(Literal {
+        lexical: TermText::copy(alloc, lexical)?,
+        kind: LiteralKind::Typed(TermText::copy(alloc, iri)?),
+    })
+}
+
+#[test]
+fn a_string_is_written_with_its_escapes(rt: HostRuntime) -> Result<(), Fail> {
+    let table = [
+        ("\u{0}", "\\u0000"),
+        ("\u{1}", "\\u0001"),
+        ("\u{2}", "\\u0002"),
+        ("\u{3}", "\\u0003"),
+        ("\u{4}", "\\u0004"),
+        ("\u{5}", "\\u0005"),
+        ("\u{6}", "\\u0006"),
+        ("\u{7}", "\\u0007"),
+        ("\u{8}", "\\b"),
+        ("\u{9}", "\\t"),
+        ("\u{A}", "\\n"),
+        ("\u{B}", "\\u000B"),
+        ("\u{C}", "\\f"),
+        ("\u{D}", "\\r"),
+        ("\u{E}", "\\u000E"),
+        ("\u{F}", "\\u000F"),
+        ("\u{10}", "\\u0010"),
+        ("\u{11}", "\\u0011"),
+        ("\u{12}", "\\u0012"),
+        ("\u{13}", "\\u0013"),
+        ("\u{14}", "\\u0014"),
+        ("\u{15}", "\\u0015"),
+        ("\u{16}", "\\u0016"),
+        ("\u{17}", "\\u0017"),
+        ("\u{18}", "\\u0018"),
+        ("\u{19}", "\\u0019"),
+        ("\u{1A}", "\\u001A"),
+        ("\u{1B}", "\\u001B"),
+        ("\u{1C}", "\\u001C"),
+        ("\u{1D}", "\\u001D"),
+        ("\u{1E}", "\\u001E"),
+        ("\u{1F}", "\\u001F"),
+        ("\u{7F}", "\\u007F"),
+        ("\"", "\\\""),
+        ("\\", "\\\\"),
+        ("\u{FFFE}", "\u{FFFE}"),
+        ("\u{FFFF}", "\u{FFFF}"),
+        ("\u{80}", "\u{80}"),
+        ("'é 😀", "'é 😀"),
+        ("one\ttwo\nthree", "one\\ttwo\\nthree"),
+        ("", ""),
+    ];
+    let alloc = rt.alloc();
+    for (lexical, written) in table {
+        let line = line_of(alloc, typed(alloc, lexical, STRING)?)?;
+        let want = format!(in alloc; "<http://e/s> <http://e/p> \"{written}\" .\n")?;
+        assert_eq!(rt; line.as_slice(), want.as_bytes(), "at {lexical:?}");
+    }
+    Ok(())
+}
+
+#[test]
+fn a_datatype_and_a_tag_are_written_behind_the_string(rt: HostRuntime) -> Result<(), Fail> {
+    let alloc = rt.alloc();
+    let typed = line_of(alloc, typed(alloc, "1", "http://e/t")?)?;
+    assert_eq!(rt; typed.as_slice(), b"<http://e/s> <http://e/p> \"1\"^^<http://e/t> .\n".as_slice());
+    let tagged = Literal {
+        lexical: TermText::copy(alloc, "ja")?,
+        kind: LiteralKind::Tagged(TermText::copy(alloc, "de-CH")?),
+    };
+    let tagged = line_of(alloc, tagged)?;
+    assert_eq!(rt; tagged.as_slice(), b"<http://e/s> <http://e/p> \"ja\"@de-CH .\n".as_slice());
+    Ok(())
+}
