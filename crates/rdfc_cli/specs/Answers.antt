@@ -31,9 +31,9 @@ text_of Canon D = canonical_nquads D (issued_names Canonical [])
 
 -- the text of the task for a file with these bytes
 pub record IsOutput (task : Task) (bytes text : Text) : Type 0 where
-  pub D : Dataset
-  pub accepts : Accepts bytes D
-  pub text_is : text ≡ text_of task D
+  pub dataset : Dataset
+  pub accepts : Accepts bytes dataset
+  pub text_is : text ≡ text_of task dataset
 
 -- ---- why a file is refused
 

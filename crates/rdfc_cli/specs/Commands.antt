@@ -18,6 +18,9 @@ pub record IsCommand (words : List Text) (task : Task) (file : Text) : Type 0 wh
   pub spelled : words ≡ word_of task ∷ file ∷ []
   pub is_file : IsFileWord file
 
+abbrev pub IsNoCommand : List Text → Type 0
+IsNoCommand words = (task : Task) (file : Text) → ¬ (IsCommand words task file)
+
 -- the file's word, where the words are a command
 abbrev pub file_word : List Text → Text
 file_word [] = []

@@ -2,10 +2,10 @@ ghost use Rattle.std.specs.Prelude.{◌≡◌, ◌↔◌, [], map, string_bytes,
 ghost use Rattle.rdf_terms.specs.Lists.{Text};
 ghost use Rattle.rdf_terms.specs.Terms.{IsValidStatement};
 ghost use Rattle.rdf_terms.specs.Document.{statements, dataset};
-ghost use Rattle.rdfc_cli.specs.Commands.{IsCommand, file_word};
+ghost use Rattle.rdfc_cli.specs.Commands.{IsCommand, IsNoCommand, file_word};
 ghost use Rattle.rdfc_cli.specs.Answers.{Accepts, text_of, seen, Stops, Answers};
 ghost use Rattle.rdfc_cli.specs.Notes.{IsNoted};
-ghost use Rattle.rdfc_cli.specs.declared.words.Task.{Task as AnyTask};
+ghost use Rattle.rdfc_cli.specs.declared.words.Task.{Task};
 
 use crate::files::{LoadFault, load};
 use crate::notes::put_note;
@@ -87,10 +87,10 @@ pub fn run<S: Shelf, K: Sink, N: Sink>(
     notes: &mut N,
 ) -> Status
     // Reading the words takes no memory.
-    ensures usage { result ≡ Status.Usage ↔ ((task : AnyTask) (file : Text) → ¬ (IsCommand (map string_bytes words.now) task file)) }
+    ensures usage { result ≡ Status.Usage ↔ IsNoCommand (map string_bytes words.now) }
     ensures untouched { result ≡ Status.Usage → (shelf.new ≡ shelf.old) × (out.new ≡ out.old) }
 
-    ensures answer { (task : AnyTask) (file : Text) → IsCommand (map string_bytes words.now) task file →
+    ensures answer { (task : Task) (file : Text) → IsCommand (map string_bytes words.now) task file →
         Answers K.taken K.faults task (seen S.told S.faults shelf.old shelf.new file) out.old out.new result }
 
     ensures note { IsNoted N.taken N.faults notes.old notes.new (file_word (map string_bytes words.now)) result }

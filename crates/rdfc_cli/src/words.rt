@@ -1,7 +1,6 @@
 ghost use Rattle.std.specs.Prelude.{◌≡◌, ◌↔◌, map, string_bytes, IsTrue, IfSome, IfNone, MatchOption};
-ghost use Rattle.rdf_terms.specs.Lists.{Text};
-ghost use Rattle.rdfc_cli.specs.Commands.{word_of, IsFileWord, IsCommand};
-ghost use Rattle.rdfc_cli.specs.declared.words.Task.{Task as AnyTask};
+ghost use Rattle.rdfc_cli.specs.Commands.{word_of, IsFileWord, IsCommand, IsNoCommand};
+ghost use Rattle.rdfc_cli.specs.declared.words.Task.{Task};
 
 /// What is to be done with a file.
 #[derive(Clone, Copy, Debug, PartialEq, Eq)]
@@ -19,7 +18,7 @@ pub struct Command<'a> {
 
 fn task_of(word: &str) -> Option<Task>
     ensures some { IfSome result (λ task. word.now ≡ word_of task) }
-    ensures none { IfNone result ((task : AnyTask) → ¬ (word.now ≡ word_of task)) }
+    ensures none { IfNone result ((task : Task) → ¬ (word.now ≡ word_of task)) }
 {
     match word {
         "canon" => Some(Task::Canon),
@@ -39,7 +38,7 @@ fn is_file_word(word: &str) -> bool
 /// The command that the words after the program's name spell. `None` where they spell none.
 pub fn read_words(words: &[String]) -> Option<Command<'_>>
     ensures some { IfSome result (λ command. IsCommand (map string_bytes words.now) command.task command.file.now) }
-    ensures none { IfNone result ((task : AnyTask) (file : Text) → ¬ (IsCommand (map string_bytes words.now) task file)) }
+    ensures none { IfNone result (IsNoCommand (map string_bytes words.now)) }
 {
     let [command, file] = words else {
         return None;
