@@ -1,4 +1,6 @@
 // The shelf and the sinks: those in memory fail at the calls they are told, and those over std do what std does.
+ghost use Rattle.std.specs.Prelude.{◌≤◌};
+
 use outside::{Failed, FileShelf, MemShelf, MemSink, Shelf, Sink, StdSink};
 use std::alloc::Global;
 use std::test::Fail;
@@ -8,11 +10,17 @@ fn numbers(alloc: Global, failing: &[u64]) -> Result<Vec<u64>, Fail> {
     Ok(failing.to_vec(alloc)?)
 }
 
-fn one_file(alloc: Global, name: &str, text: &str) -> Result<Vec<(String, Vec<u8>)>, Fail> {
+// A shelf that has the one file `f`.
+fn shelf(alloc: Global, text: &str, piece: usize, failing: &[u64]) -> Result<MemShelf, Fail>
+    requires { 1 ≤ piece }
+{
     let mut files = Vec::new(alloc);
-    let bytes = text.as_bytes().to_vec(alloc)?;
-    files.push((String::from_str(alloc, name)?, bytes))?;
-    Ok(files)
+    let file = (
+        String::from_str(alloc, "f")?,
+        text.as_bytes().to_vec(alloc)?,
+    );
+    files.push(file)?;
+    Ok(MemShelf::new(files, piece, failing.to_vec(alloc)?))
 }
 
 // Reads a file in calls of `next` with this buffer, and says what each call answered.
@@ -49,8 +57,7 @@ fn a_shelf_in_memory_gives_pieces_and_fails_where_told(rt: HostRuntime) -> Resul
         (9, &[3], "f", &[Ok(4), Ok(3), Err(Failed)]),
     ];
     for (piece, failing, name, want) in cases {
-        let files = one_file(alloc, "f", "abcdefg")?;
-        let mut shelf = MemShelf::new(files, piece, numbers(alloc, failing)?);
+        let mut shelf = shelf(alloc, "abcdefg", piece, failing)?;
         let mut buf = [0u8; 4];
         let answers = counts(alloc, &mut shelf, name, &mut buf)?;
         assert_eq!(rt; answers.as_slice(), want, "{piece} {name}");

@@ -95,12 +95,18 @@ fn a_string_is_written_with_its_escapes(rt: HostRuntime) -> Result<(), Fail> {
 fn a_datatype_and_a_tag_are_written_behind_the_string(rt: HostRuntime) -> Result<(), Fail> {
     let alloc = rt.alloc();
     let typed = line_of(alloc, typed(alloc, "1", "http://e/t")?)?;
-    assert_eq!(rt; typed.as_slice(), b"<http://e/s> <http://e/p> \"1\"^^<http://e/t> .\n".as_slice());
+    assert_eq!(rt;
+        typed.as_slice(),
+        b"<http://e/s> <http://e/p> \"1\"^^<http://e/t> .\n".as_slice()
+    );
     let tagged = Literal {
         lexical: TermText::copy(alloc, "ja")?,
         kind: LiteralKind::Tagged(TermText::copy(alloc, "de-CH")?),
     };
     let tagged = line_of(alloc, tagged)?;
-    assert_eq!(rt; tagged.as_slice(), b"<http://e/s> <http://e/p> \"ja\"@de-CH .\n".as_slice());
+    assert_eq!(rt;
+        tagged.as_slice(),
+        b"<http://e/s> <http://e/p> \"ja\"@de-CH .\n".as_slice()
+    );
     Ok(())
 }

@@ -6,6 +6,8 @@ mod arranged;
 #[cfg(test)]
 mod edges;
 #[cfg(test)]
+mod escapes;
+#[cfg(test)]
 mod issuers;
 #[cfg(test)]
 mod references;
