@@ -1,0 +1,4 @@
+pub mod Terminal
+pub mod Escapes
+pub mod Spellings
+pub mod Terminals

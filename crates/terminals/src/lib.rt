@@ -1,0 +1,14 @@
+//! The terminals that the grammars of N-Quads and TriG share, read at the front of a text.
+#![tactic(auto)]
+
+pub use bodies::{Body, Quote};
+pub use delimited::{iriref, short_string};
+pub use labels::Grammar;
+pub use runs::{Spelling, run};
+
+mod bodies;
+mod delimited;
+mod escapes;
+mod fronts;
+mod labels;
+mod runs;

@@ -1,0 +1,76 @@
+ghost use Rattle.std.specs.Prelude.{◌≡◌, ◌≤◌, ℕ, List, drop, length, string_bytes, OnOk};
+ghost use Rattle.std.specs.List.{prefix_len};
+ghost use Rattle.terminals.specs.Spellings.{stands_for_itself, BeginsWithRun, TextSpells};
+
+use crate::Body;
+use crate::escapes::escape;
+use rdf_terms::NoMemory;
+
+/// Characters as they are spelled between two marks.
+#[derive(Clone, Copy, Debug)]
+pub struct Spelling<'a> {
+    /// The characters with their escapes.
+    pub text: &'a str,
+    /// Between which marks they stand.
+    pub body: Body,
+    /// Whether an escape is among them. If not, the text is its own value.
+    pub has_escapes: bool,
+}
+
+// How many bytes at the front stand for themselves.
+fn plain_len(text: &str, body: Body) -> usize
+    ensures is { result ≡ prefix_len (stands_for_itself body) text.now }
+    ensures within { result ≤ length text.now }
+{
+    text.as_bytes()
+        .iter()
+        .take_while(|byte| body.takes(**byte))
+        .count()
+}
+
+// What follows the characters at the front that stand for themselves.
+fn after_plain(text: &str, body: Body) -> &str
+    ensures { result.now ≡ drop (prefix_len (stands_for_itself body) text.now) text.now }
+{
+    &text[plain_len(text, body)..]
+}
+
+/// The longest run of spelled characters at the front, and what follows it.
+pub fn run(text: &str, body: Body) -> (Spelling<'_>, &str)
+    ensures { BeginsWithRun body text.now result.0 result.1.now }
+{
+    let mut rest = after_plain(text, body);
+    let mut has_escapes = false;
+    while let Some((_, after)) = escape(rest, body) {
+        has_escapes = true;
+        rest = after_plain(after, body);
+    }
+    let spelling = Spelling {
+        text: &text[..text.len() - rest.len()],
+        body,
+        has_escapes,
+    };
+    (spelling, rest)
+}
+
+impl Spelling<'_> {
+    /// Writes the value into `into`, in place of what it holds. After `NoMemory` it holds a front of
+    /// the value.
+    pub fn unescape(&self, into: &mut String) -> Result<(), NoMemory>
+        ensures { (value : List ℕ) → TextSpells self.now.body self.now.text.now value → OnOk result (string_bytes into.new ≡ value) }
+    {
+        into.clear();
+        let mut rest = self.text;
+        loop {
+            let stop = after_plain(rest, self.body);
+            into.push_str(&rest[..rest.len() - stop.len()])?;
+            match escape(stop, self.body) {
+                Some((c, after)) => {
+                    into.push(c)?;
+                    rest = after;
+                }
+                None => return Ok(()),
+            }
+        }
+    }
+}
