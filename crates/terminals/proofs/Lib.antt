@@ -5,3 +5,5 @@ pub mod Unique
 pub mod Running
 pub mod Marks
 pub mod Unescaping
+pub mod Labelling
+pub mod LabelFound

@@ -12,7 +12,7 @@ use Rattle.terminals.proofs.Escaping.{same_tail}
 use Rattle.terminals.proofs.Unique.{same_run, SameRun, none_at_mark}
 use Rattle.terminals.proofs.Running.{front_from_encodes}
 
-encodes_ascii_front : (c : ℕ) (cs : List ℕ) → c < 128 → encode_utf8_all (c ∷ cs) ≡ c ∷ encode_utf8_all cs
+pub encodes_ascii_front : (c : ℕ) (cs : List ℕ) → c < 128 → encode_utf8_all (c ∷ cs) ≡ c ∷ encode_utf8_all cs
 encodes_ascii_front c cs ascii = ap (λ f. f ++ encode_utf8_all cs) (encode_ascii c ascii)
 
 -- characters whose bytes begin with an ASCII byte begin with that character

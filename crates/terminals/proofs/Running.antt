@@ -99,7 +99,7 @@ cut_behind_run body text rest h ran =
     let len : length (encode_utf8_all ran.spelled) ≡ length text - length rest = omega (arith, ap length ran.text_is, length-append (encode_utf8_all ran.spelled) rest) in
     subst (IsCharBoundary text) len (IsCharBoundary-at_seam text (encode_utf8_all ran.spelled) rest ran.text_is (ran.behind, (ran.scalars, sym ran.rest_is)))
 
-slice_front : (text : List ℕ) (n : ℕ) → slice_range text 0 n ≡ take n text
+pub slice_front : (text : List ℕ) (n : ℕ) → slice_range text 0 n ≡ take n text
 slice_front text n = grind (arith, common_steps)
 
 -- the bytes of the run

@@ -3,7 +3,7 @@
 
 pub use bodies::{Body, Quote};
 pub use delimited::{iriref, short_string};
-pub use labels::Grammar;
+pub use labels::{Grammar, blank_node_label};
 pub use runs::{Spelling, run};
 
 mod bodies;
