@@ -22,7 +22,7 @@ passing_within p (x ∷ xs) (c ∷ other) back rest e all stops =
     let more = passing_within p xs other back rest tail (λ k d l. all (suc k) d (omega arith)) stops in
     omega arith
 
-all_append : (P : ℕ → Type 0) (xs ys : List ℕ) → All P xs → All P ys → All P (xs ++ ys)
+pub all_append : (P : ℕ → Type 0) (xs ys : List ℕ) → All P xs → All P ys → All P (xs ++ ys)
 all_append P [] ys x y k d l = y k d l
 all_append P (z ∷ xs) ys x y zero d l = x 0 d (omega arith)
 all_append P (z ∷ xs) ys x y (suc k) d l = all_append P xs ys (λ j e m. x (suc j) e (omega arith)) y k d (omega arith)

@@ -7,3 +7,5 @@ pub mod Marks
 pub mod Unescaping
 pub mod Labelling
 pub mod LabelFound
+pub mod Tagging
+pub mod Facts

@@ -33,12 +33,12 @@ prefix_len-append p [] ys all = omega arith
 prefix_len-append p (x ∷ xs) ys all =
     rw (all 0 0 (omega arith)) (let rest = prefix_len-append p xs ys (λ k d l. all (suc k) d (omega arith)) in omega arith)
 
-all_one : (P : ℕ → Type 0) (x : ℕ) → P x → All P (x ∷ [])
+pub all_one : (P : ℕ → Type 0) (x : ℕ) → P x → All P (x ∷ [])
 all_one P x h zero d l = h
 all_one P x h (suc k) d l = absurd (omega arith)
 
 -- each byte of a character that stands for itself does so
-bytes_stand : (body : Body) (c : ℕ) → stands_for_itself body c ≡ true → All (λ b. stands_for_itself body b ≡ true) (encode_utf8 c)
+pub bytes_stand : (body : Body) (c : ℕ) → stands_for_itself body c ≡ true → All (λ b. stands_for_itself body b ≡ true) (encode_utf8 c)
 bytes_stand body c stands = by (cases_lt c 128)
   where
     by : (c < 128) ⊎ (128 ≤ c) → All (λ b. stands_for_itself body b ≡ true) (encode_utf8 c)

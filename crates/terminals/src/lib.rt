@@ -5,6 +5,7 @@ pub use bodies::{Body, Quote};
 pub use delimited::{iriref, short_string};
 pub use labels::{Grammar, blank_node_label};
 pub use runs::{Spelling, run};
+pub use tags::langtag;
 
 mod bodies;
 mod delimited;
@@ -12,3 +13,4 @@ mod escapes;
 mod fronts;
 mod labels;
 mod runs;
+mod tags;
