@@ -1,9 +1,9 @@
 mod LineEnds
-mod Boundaries
-mod White
-mod Terminals
-mod LineGrammar
-mod ValidLine
-mod ReadLine
+mod TerminalFacts
+mod WhiteSpace
+mod LineTerms
+mod Numbering
 mod Room
-mod DocumentLines
+mod ValidQuad
+mod ReadLines
+mod Used

@@ -1,46 +1,94 @@
--- A line that states a quad has at least seven bytes.
-use Rattle.std.proofs.Common.{◌+◌, ◌*◌, ◌≤◌, List, [], ◌∷◌, Option, Some, None, inl, inr, length, ap, arith, length-append}
+-- A line that states a quad has at least seven bytes, and a quad mentions at most three labels.
+use Rattle.std.proofs.Common.{◌≡◌, ℕ, ◌+◌, ◌*◌, ◌≤◌, List, [], ◌∷◌, ◌++◌, Option, Some, None, inl, inr, length, ap, arith, length-append}
 use Rattle.rdf_terms.specs.Lists.{Text}
 use Rattle.rdf_terms.specs.Terms.{Statement}
-use Rattle.rdf_terms.specs.Document.{Adds}
-use Rattle.rdf_terms.specs.declared.term.Term.{Term}
-use Rattle.rdf_terms.specs.declared.term.Term.TheVariants.{Iri, Blank, Literal}
-use Rattle.nquads_reader.specs.Grammar.{IsWhiteThen, IsTerm, IsSpaced, IsOptionalGraphName, IsStatement, States}
-use Rattle.nquads_reader.specs.Document.{AddsStated, AddsLine}
+use Rattle.rdf_terms.specs.Document.{Document, Adds, statements}
+use Rattle.rdf_terms.specs.declared.term.LiteralKind.{LiteralKind}
+use Rattle.rdf_terms.specs.declared.term.LiteralKind.TheVariants.{Typed, Tagged}
+use Rattle.nquads_reader.specs.declared.quad.Resource.{Resource}
+use Rattle.nquads_reader.specs.declared.quad.Resource.TheVariants.{Iri, Label}
+use Rattle.nquads_reader.specs.declared.quad.Object.{Object}
+use Rattle.nquads_reader.specs.declared.quad.Object.TheVariants.{Resource as ResourceObject, Literal as LiteralObject}
+use Rattle.nquads_reader.specs.declared.quad.StatedQuad.{StatedQuad}
+use Rattle.nquads_reader.specs.Grammar.{IsWhiteThen, IsSpaced, BeginsWithResource, BeginsWithSuffix, BeginsWithObject, BeginsWithGraphName, IsStatement}
+use Rattle.nquads_reader.specs.Document.{IsFaultless, AddsAll, labels_of_resource, labels_of_object, labels_of_graph_name, mentioned}
+use Rattle.nquads_reader.specs.Reading.{TakesStated, TakesLine}
+use Rattle.nquads_reader.proofs.TerminalFacts.{iri_room, label_room, string_room, tag_room}
 
 white_room : (text rest : Text) → IsWhiteThen text rest → length rest ≤ length text
 white_room text rest w = omega (arith, ap length w.spelled, length-append w.white rest)
 
-term_room : (text : Text) (t : Term) (rest : Text) → IsTerm text t rest → 2 + length rest ≤ length text
-term_room text (Iri iri) rest t = omega (arith, ap length t.spelled, length-append iri (62 ∷ rest))
-term_room text (Blank n) rest t = absurd t
-term_room text (Literal l) rest t = absurd t
+resource_room : (text : Text) (r : Resource) (rest : Text) → BeginsWithResource text r rest → 2 + length rest ≤ length text
+resource_room text (Iri iri) rest h = iri_room text iri rest h
+resource_room text (Label label) rest h = label_room text label rest h
 
-spaced_room : (text : Text) (t : Term) (rest : Text) → IsSpaced (IsTerm text t) rest → 2 + length rest ≤ length text
-spaced_room text t rest s = omega (arith, term_room text t s.after s.stands, white_room s.after rest s.white)
+suffix_room : (text : Text) (k : LiteralKind) (rest : Text) → BeginsWithSuffix text k rest → length rest ≤ length text
+suffix_room text (Typed iri) rest (inl h) = omega (arith, ap length h.marks, white_room h.behind h.at_iri h.white, iri_room h.at_iri iri rest h.datatype)
+suffix_room text (Typed iri) rest (inr h) = omega (arith, ap length h.1)
+suffix_room text (Tagged tag) rest h = omega (arith, tag_room text tag rest h)
 
-graph_room : (text : Text) (g : Option Term) (rest : Text) → IsOptionalGraphName text g rest → length rest ≤ length text
-graph_room text None rest h = omega (arith, ap length h)
-graph_room text (Some t) rest h = omega (arith, spaced_room text t rest h)
+object_room : (text : Text) (o : Object) (rest : Text) → BeginsWithObject text o rest → 2 + length rest ≤ length text
+object_room text (ResourceObject r) rest h = resource_room text r rest h
+object_room text (LiteralObject l) rest h = omega (arith, string_room text l.lexical h.lexical.after h.lexical.begins, white_room h.lexical.after h.at_suffix h.lexical.white, suffix_room h.at_suffix l.kind rest h.suffix)
 
-pub statement_room : (line : Text) (st : Statement) → IsStatement line st → 7 ≤ length line
-statement_room line st h = omega (
+graph_name_room : (text : Text) (g : Option Resource) (rest : Text) → BeginsWithGraphName text g rest → length rest ≤ length text
+graph_name_room text None rest h = omega (arith, ap length h.0)
+graph_name_room text (Some r) rest h = omega (arith, resource_room text r h.after h.begins, white_room h.after rest h.white)
+
+statement_room : (line : Text) (q : StatedQuad) → IsStatement line q → 7 ≤ length line
+statement_room line q h = omega (
   arith,
-  white_room line h.at_subject h.begins,
-  spaced_room h.at_subject st.subject h.terms.at_predicate h.terms.subject,
-  spaced_room h.terms.at_predicate st.predicate h.terms.at_object h.terms.predicate,
-  spaced_room h.terms.at_object st.object h.terms.at_graph_name h.terms.object,
-  graph_room h.terms.at_graph_name st.graph_name h.at_dot h.terms.graph_name,
-  ap length h.dot,
+  white_room line h.at_subject h.white,
+  resource_room h.at_subject q.subject h.terms.subject.after h.terms.subject.begins,
+  white_room h.terms.subject.after h.terms.at_predicate h.terms.subject.white,
+  iri_room h.terms.at_predicate q.predicate h.terms.predicate.after h.terms.predicate.begins,
+  white_room h.terms.predicate.after h.terms.at_object h.terms.predicate.white,
+  object_room h.terms.at_object q.object h.terms.object.after h.terms.object.begins,
+  white_room h.terms.object.after h.terms.at_graph_name h.terms.object.white,
+  graph_name_room h.terms.at_graph_name q.graph_name h.at_dot h.terms.graph_name,
+  ap length h.ends.dot,
 )
 
-added_room : (old new : List Statement) (st : Statement) → Adds old st new → length new ≤ length old + 1
-added_room old new st (inl p) = omega (arith, ap length p.0)
-added_room old new st (inr p) = omega (arith, ap length p.0, length-append old (st ∷ []))
+added_room : {A : Type 0} (old : List A) (x : A) (new : List A) → Adds old x new → length new ≤ length old + 1
+added_room old x new (inl p) = omega (arith, ap length p.0)
+added_room old x new (inr p) = omega (arith, ap length p.0, length-append old (x ∷ []))
 
-pub line_room : (line : Text) (old new : List Statement) → AddsLine line old new → 7 * length new ≤ 7 * length old + length line
-line_room line old new a = by a.stated a.states a.adds
+all_room : {A : Type 0} (old xs new : List A) → AddsAll old xs new → length new ≤ length old + length xs
+all_room old [] new h = omega (arith, ap length h)
+all_room old (x ∷ xs) new h = omega (arith, added_room old x h.0 h.1, all_room h.0 xs new h.2)
+
+resource_labels : (r : Resource) → length (labels_of_resource r) ≤ 1
+resource_labels (Iri iri) = omega arith
+resource_labels (Label label) = omega arith
+
+object_labels : (o : Object) → length (labels_of_object o) ≤ 1
+object_labels (ResourceObject r) = resource_labels r
+object_labels (LiteralObject l) = omega arith
+
+graph_name_labels : (g : Option Resource) → length (labels_of_graph_name g) ≤ 1
+graph_name_labels None = omega arith
+graph_name_labels (Some r) = resource_labels r
+
+mentioned_room : (q : StatedQuad) → length (mentioned q) ≤ 3
+mentioned_room q = omega (
+  arith,
+  resource_labels q.subject,
+  object_labels q.object,
+  graph_name_labels q.graph_name,
+  length-append (labels_of_resource q.subject) (labels_of_object q.object ++ labels_of_graph_name q.graph_name),
+  length-append (labels_of_object q.object) (labels_of_graph_name q.graph_name),
+)
+
+pub quads_room : (line : Text) (old new : Document) → TakesLine line old new → 7 * length (statements new) ≤ 7 * length (statements old) + length line
+quads_room line old new t = by t.stated t.faultless t.takes
   where
-    by : (stated : Option Statement) → States line stated → AddsStated old stated new → 7 * length new ≤ 7 * length old + length line
-    by None s adds = omega (arith, ap length adds)
-    by (Some st) s adds = omega (arith, statement_room line st s.1, added_room old new st adds)
+    by : (stated : Option StatedQuad) → IsFaultless line stated → TakesStated stated old new → 7 * length (statements new) ≤ 7 * length (statements old) + length line
+    by None f takes = omega (arith, ap (λ d. length (statements d)) takes)
+    by (Some q) f takes = omega (arith, statement_room line q f.states, added_room (statements old) takes.statement (statements new) takes.adds)
+
+pub labels_room : (line : Text) (old new : Document) → TakesLine line old new → 7 * length new.labels ≤ 7 * length old.labels + 3 * length line
+labels_room line old new t = by t.stated t.faultless t.takes
+  where
+    by : (stated : Option StatedQuad) → IsFaultless line stated → TakesStated stated old new → 7 * length new.labels ≤ 7 * length old.labels + 3 * length line
+    by None f takes = omega (arith, ap (λ (d : Document). length d.labels) takes)
+    by (Some q) f takes = omega (arith, statement_room line q f.states, mentioned_room q, all_room old.labels (mentioned q) new.labels takes.labels)

@@ -1,4 +1,4 @@
 pub mod Lines
 pub mod Grammar
-pub mod Reading
 pub mod Document
+pub mod Reading

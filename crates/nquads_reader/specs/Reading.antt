@@ -1,72 +1,59 @@
--- What reading a line from its front gives: None outside the grammar, else what was found and what follows it.
-use Rattle.std.specs.Prelude.{◌≡◌, ℕ, ◌+◌, Bool, true, false, not, ◌&&◌, [], ◌∷◌, ◌==◌, if◌then◌else◌, take, drop, slice_index, Option, Some, None, Result, Ok, Err}
-use Rattle.std.specs.List.{prefix_len}
+-- What a function that reads at the front of a text answers.
+use Rattle.std.specs.Prelude.{◌≡◌, Option, Some, None, IfSome, IsUtf8}
 use Rattle.rdf_terms.specs.Lists.{Text}
-use Rattle.rdf_terms.specs.Terms.{Statement, is_excluded}
-use Rattle.rdf_terms.specs.declared.term.Term.{Term}
-use Rattle.rdf_terms.specs.declared.term.Term.TheVariants.{Iri}
-use Rattle.nquads_reader.specs.Grammar.{is_white}
-use Rattle.nquads_reader.specs.declared.line.LineQuad.{LineQuad}
+use Rattle.rdf_terms.specs.Terms.{Statement, IsAbsoluteIri, IsValidKind}
+use Rattle.rdf_terms.specs.Document.{Document, Adds, statements}
+use Rattle.nquads_reader.specs.Grammar.{States}
+use Rattle.nquads_reader.specs.Document.{IsNotUtf8, IsBad, HasRelativeIri, IsFaultless, mentioned, IsStatementOf, AddsAll}
+use Rattle.nquads_reader.specs.declared.quad.Resource.{Resource}
+use Rattle.nquads_reader.specs.declared.quad.Resource.TheVariants.{Iri, Label}
+use Rattle.nquads_reader.specs.declared.quad.Object.{Object}
+use Rattle.nquads_reader.specs.declared.quad.Object.TheVariants.{Resource as ResourceObject, Literal as LiteralObject}
+use Rattle.nquads_reader.specs.declared.quad.StatedQuad.{StatedQuad}
 use Rattle.nquads_reader.specs.declared.line.LineFault.{LineFault}
-use Rattle.nquads_reader.specs.declared.line.LineFault.TheVariants.{Outside, NoMemory}
+use Rattle.nquads_reader.specs.declared.line.LineFault.TheVariants.{NotUtf8, BadLine, RelativeIri, NoMemory}
 
-infixl 10 ◌>>=◌
-abbrev pub ◌>>=◌ : {A B : Type 0} → Option A → (A → Option B) → Option B
-None >>= f = None
-(Some x) >>= f = f x
+-- the text begins with what was found, seen by view as a value and the rest; where nothing was found, it begins with nothing of the kind
+abbrev pub Reads : {X V : Type 0} → (X → V × Text) → (V → Text → Type 0) → Option X → Type 0
+Reads {X} {V} view BeginsWith None = (value : V) (rest : Text) → ¬ (BeginsWith value rest)
+Reads view BeginsWith (Some x) = BeginsWith (view x).0 (view x).1
 
--- how many bytes at the front pass the test
-abbrev pub run : (ℕ → Bool) → Text → ℕ
-run p text = prefix_len p text
+-- the line has the fault
+abbrev pub IsFaultOf : Text → LineFault → Type 0
+IsFaultOf line NotUtf8 = IsNotUtf8 line
+IsFaultOf line BadLine = IsBad line
+IsFaultOf line RelativeIri = HasRelativeIri line
+IsFaultOf line NoMemory = Unit {0}
 
-abbrev pub skip_white : Text → Text
-skip_white text = drop (run is_white text) text
+-- ---- the texts of what a line states are valid
 
-abbrev pub is_allowed : ℕ → Bool
-is_allowed c = not (is_excluded c)
+abbrev pub IsValidResource : Resource → Type 0
+IsValidResource (Iri iri) = IsAbsoluteIri iri
+IsValidResource (Label label) = Unit {0}
 
-abbrev pub iri_at : Text → Option (Term × Text)
-iri_at [] = None
-iri_at (c ∷ text) =
-    let n = run is_allowed text in
-    if c == 60 && slice_index text n == 62 then Some (Iri (take n text), drop (n + 1) text) else None
+abbrev pub IsValidObject : Object → Type 0
+IsValidObject (ResourceObject resource) = IsValidResource resource
+IsValidObject (LiteralObject literal) = IsUtf8 literal.lexical × IsValidKind literal.kind
 
--- a graph name, where no dot stands
-abbrev pub graph_name_at : Text → Option (Option Term × Text)
-graph_name_at text = if slice_index text 0 == 46 then Some (None, text) else (iri_at text >>= λ x. Some (Some x.0, skip_white x.1))
+pub record IsValidQuad (quad : StatedQuad) : Type 0 where
+  pub subject : IsValidResource quad.subject
+  pub predicate : IsAbsoluteIri quad.predicate
+  pub object : IsValidObject quad.object
+  pub graph_name : IfSome quad.graph_name IsValidResource
 
--- nothing, or a comment
-abbrev pub is_end : Text → Bool
-is_end [] = true
-is_end (c ∷ cs) = c == 35
+-- ---- what a line adds to a document
 
--- a dot, and then the end
-abbrev pub is_dot_end : Text → Bool
-is_dot_end [] = false
-is_dot_end (c ∷ cs) = c == 46 && is_end (skip_white cs)
+pub record TakesQuad (quad : StatedQuad) (old new : Document) : Type 0 where
+  pub statement : Statement
+  pub labels : AddsAll old.labels (mentioned quad) new.labels
+  pub numbers : IsStatementOf new.labels quad statement
+  pub adds : Adds (statements old) statement (statements new)
 
-unfoldable pub statement_at : Text → Option (Statement × Text)
-statement_at text = do
-  s ← iri_at text
-  p ← iri_at (skip_white s.1)
-  o ← iri_at (skip_white p.1)
-  g ← graph_name_at (skip_white o.1)
-  Some (record { subject = s.0; predicate = p.0; object = o.0; graph_name = g.0 }, g.1)
+abbrev pub TakesStated : Option StatedQuad → Document → Document → Type 0
+TakesStated None old new = new ≡ old
+TakesStated (Some quad) old new = TakesQuad quad old new
 
-abbrev pub content_of : Text → Option (Option Statement)
-content_of text = if is_end text then Some None else (statement_at text >>= λ x. if is_dot_end x.1 then Some (Some x.0) else None)
-
-unfoldable pub line_of : Text → Option (Option Statement)
-line_of line = content_of (skip_white line)
-
-abbrev pub statement_of : LineQuad → Statement
-statement_of q = record { subject = q.subject; predicate = q.predicate; object = q.object; graph_name = q.graph_name }
-
--- What a function returned, seen by view, is what reading gives, unless memory was refused.
-abbrev pub Fails : {Y : Type 0} → LineFault → Option Y → Type 0
-Fails NoMemory read = Unit {0}
-Fails Outside read = read ≡ None
-
-abbrev pub Gives : {X Y : Type 0} → (X → Y) → Result X LineFault → Option Y → Type 0
-Gives view (Ok x) read = read ≡ Some (view x)
-Gives view (Err e) read = Fails e read
+pub record TakesLine (line : Text) (old new : Document) : Type 0 where
+  pub stated : Option StatedQuad
+  pub faultless : IsFaultless line stated
+  pub takes : TakesStated stated old new

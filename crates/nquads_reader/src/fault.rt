@@ -3,11 +3,18 @@ ghost use Rattle.nquads_reader.specs.declared.fault.ReadFault.TheVariants.{NoMem
 
 use rdf_terms::NoMemory;
 
-/// Why a document was not read. A line is given by its number, counted from 1.
+/// Why a document was not read. A line is given by its number, counted from 1, and is the first
+/// one with any fault.
 #[derive(Clone, Copy, Debug, PartialEq, Eq)]
 pub enum ReadFault {
-    /// The line is outside the part of N-Quads that is read so far.
-    NotYet { line: u64 },
+    /// The bytes of the line are not UTF-8.
+    NotUtf8 { line: u64 },
+    /// The line is not in the grammar.
+    BadLine { line: u64 },
+    /// An IRI of the line has no scheme.
+    RelativeIri { line: u64 },
+    /// There are more than `MAX_QUADS` distinct quads.
+    TooManyQuads,
     NoMemory,
 }
 

@@ -1,7 +1,4 @@
-//! Reads N-Quads (RDF 1.1 N-Quads): the statements of a document, or the first line that is no
-//! N-Quads.
-//!
-//! For now lines are read whose terms are IRIs, in ASCII and without escapes.
+//! Reads N-Quads (RDF 1.1 N-Quads): the quads of a document, or the first line that is none.
 #![tactic(auto)]
 
 pub use fault::ReadFault;
@@ -10,4 +7,11 @@ pub use read::read_nquads;
 mod fault;
 mod line;
 mod lines;
+mod number;
+mod quad;
 mod read;
+mod terms;
+mod white;
+
+/// How many distinct quads a document may have.
+pub const MAX_QUADS: u64 = 1_048_576;

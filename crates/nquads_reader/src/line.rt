@@ -1,18 +1,24 @@
-ghost use Rattle.std.specs.Prelude.{◌≡◌, ◌≤◌, ◌<◌, ◌↔◌, length, All, IsTrue, IfOk, IfSome};
-ghost use Rattle.std.specs.Option.{option_map};
-ghost use Rattle.rdf_terms.specs.Terms.{IsValidStatement};
+ghost use Rattle.std.specs.Prelude.{◌≡◌, ◌↔◌, IfOk, IfErr, IfSome, IsTrue};
+ghost use Rattle.rdf_terms.specs.Terms.{HasScheme};
 ghost use Rattle.nquads_reader.specs.declared.line.LineFault.TheVariants.{NoMemory as Memory};
-ghost use Rattle.nquads_reader.specs.Grammar.{is_white, IsAbsoluteTerm, IsAbsolute, IsAsciiLine, States, IsOutside};
-ghost use Rattle.nquads_reader.specs.Reading.{is_allowed, run, skip_white, iri_at, graph_name_at, is_end, is_dot_end, statement_at, content_of, line_of, statement_of, Gives};
+ghost use Rattle.nquads_reader.specs.Grammar.{BeginsWithGraphName, BeginsWithTerms, EndsStatement, States};
+ghost use Rattle.nquads_reader.specs.Document.{IsAbsoluteResource, IsAbsoluteKind, IsAbsoluteObject, IsAbsolute, IsFaultless};
+ghost use Rattle.nquads_reader.specs.Reading.{Reads, IsFaultOf};
 
+use crate::quad::{Object, Resource, StatedQuad};
+use crate::terms::{iri, object, resource};
+use crate::white::{after_mark, after_white, is_optional_comment};
 use iri_resolve::has_scheme;
-use rdf_terms::{NoMemory, Term, TermText};
+use rdf_terms::{LiteralKind, NoMemory};
+use simdutf8::compat::from_utf8;
 use std::alloc::Global;
 
 // Why a line was not taken.
 #[derive(Clone, Copy, Debug, PartialEq, Eq)]
 pub enum LineFault {
-    Outside,
+    NotUtf8,
+    BadLine,
+    RelativeIri,
     NoMemory,
 }
 
@@ -24,180 +30,129 @@ impl From<NoMemory> for LineFault {
     }
 }
 
-// The terms of a line.
-#[derive(Drop)]
-pub struct LineQuad {
-    pub subject: Term,
-    pub predicate: Term,
-    pub object: Term,
-    pub graph_name: Option<Term>,
-}
-
-fn is_white_byte(byte: u8) -> bool
-    ensures { result ≡ is_white byte }
+// The graph name, where no dot stands in its place, and what follows it and white space.
+fn graph_name(alloc: Global, text: &str) -> Result<Option<(Option<Resource>, &str)>, NoMemory>
+    ensures { IfOk result (Reads (λ x. (x.0, x.1.now)) (BeginsWithGraphName text.now)) }
 {
-    byte == b' ' || byte == b'\t'
-}
-
-// Whether the byte may stand in an IRI.
-fn may_stand(byte: u8) -> bool
-    ensures { result ≡ is_allowed byte }
-{
-    match byte {
-        0..=0x20 | b'<' | b'>' | b'"' | b'{' | b'}' | b'|' | b'^' | b'`' | b'\\' => false,
-        _ => true,
+    if after_mark(text, '.').is_some() {
+        return Ok(Some((None, text)));
+    }
+    match resource(alloc, text)? {
+        Some((resource, rest)) => Ok(Some((Some(resource), after_white(rest)))),
+        None => Ok(None),
     }
 }
 
-fn white_len(text: &[u8]) -> usize
-    ensures is { result ≡ run is_white text.now }
-    ensures within { result ≤ length text.now }
+// The terms of a statement, and what follows them and white space.
+fn terms(alloc: Global, text: &str) -> Result<Option<(StatedQuad, &str)>, NoMemory>
+    ensures { IfOk result (Reads (λ x. (x.0, x.1.now)) (BeginsWithTerms text.now)) }
 {
-    text.iter().take_while(|b| is_white_byte(**b)).count()
-}
-
-fn iri_len(text: &[u8]) -> usize
-    ensures is { result ≡ run is_allowed text.now }
-    ensures within { result ≤ length text.now }
-{
-    text.iter().take_while(|b| may_stand(**b)).count()
-}
-
-fn after_white(text: &str) -> &str
-    ensures { result.now ≡ skip_white text.now }
-{
-    &text[white_len(text.as_bytes())..]
-}
-
-// The IRI at the front, and what follows it.
-fn iri(alloc: Global, text: &str) -> Result<(Term, &str), LineFault>
-    ensures { Gives (λ x. (x.0, x.1.now)) result (iri_at text.now) }
-{
-    let bytes = text.as_bytes();
-    let Some((b'<', body)) = bytes.split_first() else {
-        return Err(LineFault::Outside);
+    let Some((subject, rest)) = resource(alloc, text)? else {
+        return Ok(None);
     };
-    let end = iri_len(body);
-    if end == body.len() || body[end] != b'>' {
-        return Err(LineFault::Outside);
-    }
-    let iri = TermText::copy(alloc, &text[1..end + 1])?;
-    Ok((Term::Iri(iri), &text[end + 2..]))
-}
-
-// The graph name at the front, where no dot stands there, and what follows it.
-fn graph_name(alloc: Global, text: &str) -> Result<(Option<Term>, &str), LineFault>
-    ensures { Gives (λ x. (x.0, x.1.now)) result (graph_name_at text.now) }
-{
-    if text.as_bytes().first() == Some(&b'.') {
-        return Ok((None, text));
-    }
-    let (graph_name, rest) = iri(alloc, text)?;
-    Ok((Some(graph_name), after_white(rest)))
-}
-
-// Whether nothing is left but a comment.
-fn is_line_end(text: &str) -> bool
-    ensures { result ≡ is_end text.now }
-{
-    match text.as_bytes().first() {
-        None => true,
-        Some(first) => *first == b'#',
-    }
-}
-
-fn is_statement_end(text: &str) -> bool
-    ensures { result ≡ is_dot_end text.now }
-{
-    let bytes = text.as_bytes();
-    match bytes.split_first() {
-        Some((b'.', _)) => is_line_end(after_white(&text[1..])),
-        _ => false,
-    }
-}
-
-#[tactic(auto, unfolding(crate::specs::Reading::statement_at))]
-fn statement(alloc: Global, text: &str) -> Result<(LineQuad, &str), LineFault>
-    ensures { Gives (λ x. (statement_of x.0, x.1.now)) result (statement_at text.now) }
-{
-    let (subject, rest) = iri(alloc, text)?;
-    let (predicate, rest) = iri(alloc, after_white(rest))?;
-    let (object, rest) = iri(alloc, after_white(rest))?;
-    let (graph_name, rest) = graph_name(alloc, after_white(rest))?;
-    let quad = LineQuad {
+    let Some((predicate, rest)) = iri(alloc, after_white(rest))? else {
+        return Ok(None);
+    };
+    let Some((object, rest)) = object(alloc, after_white(rest))? else {
+        return Ok(None);
+    };
+    let Some((graph_name, rest)) = graph_name(alloc, after_white(rest))? else {
+        return Ok(None);
+    };
+    let quad = StatedQuad {
         subject,
         predicate,
         object,
         graph_name,
     };
-    Ok((quad, rest))
+    Ok(Some((quad, rest)))
 }
 
-fn content(alloc: Global, text: &str) -> Result<Option<LineQuad>, LineFault>
-    ensures { Gives (option_map statement_of) result (content_of text.now) }
+// Whether a dot, and then nothing but white space and a comment stands there.
+fn ends_statement(text: &str) -> bool
+    ensures { IsTrue result ↔ EndsStatement text.now }
 {
-    if is_line_end(text) {
+    match after_mark(text, '.') {
+        None => false,
+        Some(rest) => is_optional_comment(after_white(rest)),
+    }
+}
+
+// What the line states: no quad, or one.
+fn stated(alloc: Global, line: &str) -> Result<Option<StatedQuad>, LineFault>
+    ensures ok { IfOk result (States line.now) }
+    ensures err { IfErr result (IsFaultOf line.now) }
+{
+    let text = after_white(line);
+    if is_optional_comment(text) {
         return Ok(None);
     }
-    let (quad, rest) = statement(alloc, text)?;
-    if is_statement_end(rest) {
+    let Some((quad, rest)) = terms(alloc, text)? else {
+        return Err(LineFault::BadLine);
+    };
+    if ends_statement(rest) {
         Ok(Some(quad))
     } else {
-        Err(LineFault::Outside)
+        Err(LineFault::BadLine)
     }
 }
 
-#[tactic(auto, unfolding(crate::specs::Reading::line_of))]
-fn parse(alloc: Global, line: &str) -> Result<Option<LineQuad>, LineFault>
-    ensures { Gives (option_map statement_of) result (line_of line.now) }
+fn is_absolute_resource(resource: &Resource) -> bool
+    ensures { IsTrue result ↔ IsAbsoluteResource resource.now }
 {
-    content(alloc, after_white(line))
-}
-
-fn is_ascii(line: &[u8]) -> bool
-    ensures { IsTrue result ↔ IsAsciiLine line.now }
-{
-    line.iter().all(|b| *b < 0x80)
-}
-
-fn is_absolute_term(term: &Term) -> bool
-    ensures { IsTrue result ↔ IsAbsoluteTerm term.now }
-{
-    match term {
-        Term::Iri(iri) => has_scheme(iri.as_str()),
-        _ => true,
+    match resource {
+        Resource::Iri(iri) => has_scheme(iri.as_str()),
+        Resource::Label(_) => true,
     }
 }
 
-fn is_absolute(quad: &LineQuad) -> bool
-    ensures { IsTrue result ↔ IsAbsolute (statement_of quad.now) }
+fn is_absolute_kind(kind: &LiteralKind) -> bool
+    ensures { IsTrue result ↔ IsAbsoluteKind kind.now }
 {
-    is_absolute_term(&quad.subject)
-        && is_absolute_term(&quad.predicate)
-        && is_absolute_term(&quad.object)
-        && quad.graph_name.as_ref().is_none_or(|t| is_absolute_term(t))
+    match kind {
+        LiteralKind::Typed(iri) => has_scheme(iri.as_str()),
+        LiteralKind::Tagged(_) => true,
+    }
 }
 
-// What the line states: nothing, or a quad.
-pub fn read_line(alloc: Global, line: &[u8]) -> Result<Option<LineQuad>, LineFault>
-    ensures ok { IfOk result (λ found. States line.now (option_map statement_of found)) }
-    ensures outside { result ≡ Err LineFault.Outside → IsOutside line.now }
-    ensures valid { IfOk result (λ found. IfSome found (λ q. IsValidStatement 0 (statement_of q))) }
+fn is_absolute_object(object: &Object) -> bool
+    ensures { IsTrue result ↔ IsAbsoluteObject object.now }
 {
-    if !is_ascii(line) {
-        return Err(LineFault::Outside);
+    match object {
+        Object::Resource(resource) => is_absolute_resource(resource),
+        Object::Literal(literal) => is_absolute_kind(&literal.kind),
     }
-    let Ok(text) = std::str::from_utf8(line) else {
-        return Err(LineFault::Outside);
+}
+
+// Whether each IRI of the quad has a scheme.
+fn is_absolute(quad: &StatedQuad) -> bool
+    ensures { IsTrue result ↔ IsAbsolute quad.now }
+{
+    is_absolute_resource(&quad.subject)
+        && has_scheme(quad.predicate.as_str())
+        && is_absolute_object(&quad.object)
+        && quad
+            .graph_name
+            .as_ref()
+            .is_none_or(|graph_name| is_absolute_resource(graph_name))
+}
+
+// What the line states: no quad, or one.
+pub fn read_line(alloc: Global, line: &[u8]) -> Result<Option<StatedQuad>, LineFault>
+    ensures ok { IfOk result (IsFaultless line.now) }
+    ensures err { IfErr result (IsFaultOf line.now) }
+{
+    let Ok(text) = from_utf8(line) else {
+        return Err(LineFault::NotUtf8);
     };
-    match parse(alloc, text)? {
+    match stated(alloc, text)? {
+        None => Ok(None),
         Some(quad) => {
             if is_absolute(&quad) {
                 Ok(Some(quad))
             } else {
-                Err(LineFault::Outside)
+                Err(LineFault::RelativeIri)
             }
         }
-        None => Ok(None),
     }
 }

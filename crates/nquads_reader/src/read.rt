@@ -1,36 +1,36 @@
-ghost use Rattle.std.specs.Prelude.{◌≡◌, ◌≤◌, ◌<◌, ℕ, [], length, All, IfOk, OnOk};
-ghost use Rattle.rdf_terms.specs.Terms.{IsValidStatement};
-ghost use Rattle.rdf_terms.specs.Document.{statements};
-ghost use Rattle.nquads_reader.specs.Lines.{lines_of};
-ghost use Rattle.nquads_reader.specs.Grammar.{IsOutside};
-ghost use Rattle.nquads_reader.specs.Document.{AddsLine, IsNQuads, IsLeastOutside};
+ghost use Rattle.std.specs.Prelude.{◌≡◌, ◌≤◌, ◌<◌, ◌+◌, length, IfOk, IfErr, OnOk};
+ghost use Rattle.rdf_terms.specs.Document.{statements, IsDocument};
+ghost use Rattle.nquads_reader.specs.Document.{IsNQuads, IsCauseOf};
+ghost use Rattle.nquads_reader.specs.Reading.{TakesLine, IsFaultOf};
 
-use crate::ReadFault;
 use crate::line::{LineFault, read_line};
 use crate::lines::next_line;
+use crate::number::take_quad;
+use crate::{MAX_QUADS, ReadFault};
 use rdf_terms::{Draft, Parsed};
 use std::alloc::Global;
 
 // Adds what the line states.
 fn take_line(alloc: Global, draft: &mut Draft, line: &[u8]) -> Result<(), LineFault>
-    requires room { length draft.old.quads < 1000000000 }
-    requires no_labels { draft.old.labels ≡ [] }
-    ensures ok { OnOk result (AddsLine line.now (statements draft.old) (statements draft.new)) }
-    ensures outside { result ≡ Err LineFault.Outside → IsOutside line.now }
-    ensures labels { draft.new.labels ≡ [] }
+    requires room { length (statements draft.old) < 1000000000 }
+    requires labels { length draft.old.labels + 3 ≤ 4294967295 }
+    ensures ok { OnOk result (TakesLine line.now draft.old draft.new) }
+    ensures err { IfErr result (IsFaultOf line.now) }
 {
-    if let Some(quad) = read_line(alloc, line)? {
-        draft.add(quad.subject, quad.predicate, quad.object, quad.graph_name)?;
+    match read_line(alloc, line)? {
+        None => Ok(()),
+        Some(quad) => {
+            take_quad(draft, quad)?;
+            Ok(())
+        }
     }
-    Ok(())
 }
 
 // Adds what the lines of the document state, in their order.
 fn read_lines(alloc: Global, bytes: &[u8]) -> Result<Draft, ReadFault>
     requires { length bytes.now ≤ 4294967295 }
-    ensures ok { IfOk result (λ draft. IsNQuads bytes.now (statements draft)) }
-    ensures labels { IfOk result (λ draft. draft.labels ≡ []) }
-    ensures not_yet { (n : ℕ) → result ≡ Err (ReadFault.NotYet n) → IsLeastOutside (lines_of bytes.now) n }
+    ensures ok { IfOk result (λ draft. IsNQuads bytes.now draft.labels (statements draft)) }
+    ensures err { IfErr result (IsCauseOf bytes.now) }
 {
     let mut draft = Draft::new(alloc);
     let mut rest = bytes;
@@ -41,22 +41,29 @@ fn read_lines(alloc: Global, bytes: &[u8]) -> Result<Draft, ReadFault>
         line += 1;
         match take_line(alloc, &mut draft, text) {
             Ok(()) => {}
-            Err(LineFault::Outside) => return Err(ReadFault::NotYet { line }),
+            Err(LineFault::NotUtf8) => return Err(ReadFault::NotUtf8 { line }),
+            Err(LineFault::BadLine) => return Err(ReadFault::BadLine { line }),
+            Err(LineFault::RelativeIri) => return Err(ReadFault::RelativeIri { line }),
             Err(LineFault::NoMemory) => return Err(ReadFault::NoMemory),
         }
     }
     Ok(draft)
 }
 
-/// Reads a document (RDF 1.1 N-Quads, sections 3 and 4). For now it answers `NotYet` for the first
-/// line that holds anything but IRIs with a scheme, in ASCII and without escapes.
+/// Reads a document (RDF 1.1 N-Quads, sections 3 and 4).
+///
+/// A line ends at LF, at CR LF or at a CR alone. A label names one node in the whole document, and
+/// nodes are numbered from 0 by their first mention, in a line as subject, object and graph name.
 pub fn read_nquads(alloc: Global, bytes: &[u8]) -> Result<Parsed, ReadFault>
     requires { length bytes.now ≤ 4294967295 }
-    ensures ok { IfOk result (λ parsed. IsNQuads bytes.now (statements parsed)) }
-    ensures valid { IfOk result (λ parsed. All (IsValidStatement 0) (statements parsed)) }
-    ensures labels { IfOk result (λ parsed. parsed.labels ≡ []) }
-    ensures not_yet { (n : ℕ) → result ≡ Err (ReadFault.NotYet n) → IsLeastOutside (lines_of bytes.now) n }
+    ensures ok { IfOk result (λ parsed. IsNQuads bytes.now parsed.labels (statements parsed)) }
+    ensures within { IfOk result (λ parsed. length (statements parsed) ≤ MAX_QUADS) }
+    ensures document { IfOk result IsDocument }
+    ensures err { IfErr result (IsCauseOf bytes.now) }
 {
     let draft = read_lines(alloc, bytes)?;
+    if draft.quad_count() > MAX_QUADS {
+        return Err(ReadFault::TooManyQuads);
+    }
     Ok(draft.finish()?)
 }

@@ -1,9 +1,11 @@
-use Rattle.std.proofs.Common.{◌≡◌, Err, ap}
-use Rattle.std.proofs.lemmas.Result.{err_from_is_err_and}
-use Rattle.nquads_reader.specs.declared.fault.ReadFault.TheVariants.{NotYet}
+use Rattle.std.proofs.Common.{sym, subst}
+use Rattle.rdf_terms.specs.Document.{Document, statements}
+use Rattle.nquads_reader.specs.Lines.{lines_of}
+use Rattle.nquads_reader.specs.Document.{AreRead}
+use Rattle.nquads_reader.proofs.Used.{node_used}
 use Rattle.nquads_reader.proofs.read.read_nquads.Goals as goal
 
-pub returns-in_err-draft-clause-not_yet : goal.returns-in_err-draft-clause-not_yet
-returns-in_err-draft-clause-not_yet c =
-    let p = err_from_is_err_and c.from_residual.result c.from_residual.ensures.1 in
-    rw (p.1, p.2) (λ n is. let same : c.in_err-draft.field-0.0 ≡ NotYet n = cc in c.in_err-draft.ensures.not_yet n (ap Err same))
+pub returns-clause-ok : goal.returns-clause-ok
+returns-clause-ok c =
+    let same = c.in_ok-finish.ensures.whole (λ n less. node_used (lines_of c.args.bytes.now) c.in_ok-draft.draft.labels (statements c.in_ok-draft.draft) c.in_ok-draft.ensures.ok n less) in
+    subst (λ (d : Document). AreRead (lines_of c.args.bytes.now) d.labels (statements d)) (sym same) c.in_ok-draft.ensures.ok

@@ -1,0 +1,130 @@
+ghost use Rattle.std.specs.Prelude.{◌≡◌, ◌↔◌, IfOk, IsTrue, false};
+ghost use Rattle.rdf_terms.specs.Lists.{Text};
+ghost use Rattle.rdf_terms.specs.CanonicalForm.{xsd_string};
+ghost use Rattle.terminals.specs.Spellings.{TextSpells};
+ghost use Rattle.nquads_reader.specs.Grammar.{BeginsWithIri, BeginsWithString, BeginsWithResource, BeginsWithDatatype, BeginsWithTag, BeginsWithNoSuffix, BeginsWithSuffix, BeginsWithLiteral, BeginsWithObject};
+ghost use Rattle.nquads_reader.specs.Reading.{Reads};
+
+use crate::quad::{Object, Resource};
+use crate::white::{after_mark, after_white};
+use rdf_terms::{Literal, LiteralKind, NoMemory, TermText};
+use std::alloc::Global;
+use terminals::{Grammar, Quote, Spelling, blank_node_label, iriref, langtag, short_string};
+
+// The datatype of a string with no suffix (RDF 1.1 Concepts, section 3.3).
+const XSD_STRING: &str = "http://www.w3.org/2001/XMLSchema#string";
+
+// The characters that are spelled.
+fn spelled(alloc: Global, spelling: Spelling) -> Result<TermText, NoMemory>
+    ensures { (value : Text) → TextSpells spelling.entry.body spelling.entry.text.now value → (spelling.entry.has_escapes ≡ false → spelling.entry.text.now ≡ value) → IfOk result (λ text. text ≡ value) }
+{
+    if !spelling.has_escapes {
+        return TermText::copy(alloc, spelling.text);
+    }
+    let mut value = String::new(alloc);
+    spelling.unescape(&mut value)?;
+    TermText::copy(alloc, value.as_str())
+}
+
+// Each function below answers what stands at the front of the text, and what follows it.
+
+pub fn iri(alloc: Global, text: &str) -> Result<Option<(TermText, &str)>, NoMemory>
+    ensures { IfOk result (Reads (λ x. (x.0, x.1.now)) (BeginsWithIri text.now)) }
+{
+    let Some((spelling, rest)) = iriref(text) else {
+        return Ok(None);
+    };
+    Ok(Some((spelled(alloc, spelling)?, rest)))
+}
+
+fn string(alloc: Global, text: &str) -> Result<Option<(TermText, &str)>, NoMemory>
+    ensures { IfOk result (Reads (λ x. (x.0, x.1.now)) (BeginsWithString text.now)) }
+{
+    let Some((spelling, rest)) = short_string(text, Quote::Double) else {
+        return Ok(None);
+    };
+    Ok(Some((spelled(alloc, spelling)?, rest)))
+}
+
+pub fn resource(alloc: Global, text: &str) -> Result<Option<(Resource, &str)>, NoMemory>
+    ensures { IfOk result (Reads (λ x. (x.0, x.1.now)) (BeginsWithResource text.now)) }
+{
+    if let Some((iri, rest)) = iri(alloc, text)? {
+        return Ok(Some((Resource::Iri(iri), rest)));
+    }
+    let Some((label, rest)) = blank_node_label(text, Grammar::NQuads) else {
+        return Ok(None);
+    };
+    Ok(Some((Resource::Label(TermText::copy(alloc, label)?), rest)))
+}
+
+fn datatype(alloc: Global, text: &str) -> Result<Option<(TermText, &str)>, NoMemory>
+    ensures { IfOk result (Reads (λ x. (x.0, x.1.now)) (BeginsWithDatatype text.now)) }
+{
+    let Some(rest) = after_mark(text, '^') else {
+        return Ok(None);
+    };
+    let Some(rest) = after_mark(rest, '^') else {
+        return Ok(None);
+    };
+    iri(alloc, after_white(rest))
+}
+
+fn tag(alloc: Global, text: &str) -> Result<Option<(TermText, &str)>, NoMemory>
+    ensures { IfOk result (Reads (λ x. (x.0, x.1.now)) (BeginsWithTag text.now)) }
+{
+    let Some((tag, rest)) = langtag(text) else {
+        return Ok(None);
+    };
+    Ok(Some((TermText::copy(alloc, tag)?, rest)))
+}
+
+// Whether no suffix of a string begins there.
+fn has_no_suffix(text: &str) -> bool
+    ensures { IsTrue result ↔ BeginsWithNoSuffix text.now }
+{
+    match text.as_bytes().first() {
+        None => true,
+        Some(first) => *first != b'^' && *first != b'@',
+    }
+}
+
+fn suffix(alloc: Global, text: &str) -> Result<Option<(LiteralKind, &str)>, NoMemory>
+    ensures { IfOk result (Reads (λ x. (x.0, x.1.now)) (BeginsWithSuffix text.now)) }
+{
+    if has_no_suffix(text) {
+        let datatype = TermText::copy(alloc, XSD_STRING)?;
+        return Ok(Some((LiteralKind::Typed(datatype), text)));
+    }
+    if let Some((tag, rest)) = tag(alloc, text)? {
+        return Ok(Some((LiteralKind::Tagged(tag), rest)));
+    }
+    match datatype(alloc, text)? {
+        Some((datatype, rest)) => Ok(Some((LiteralKind::Typed(datatype), rest))),
+        None => Ok(None),
+    }
+}
+
+fn literal(alloc: Global, text: &str) -> Result<Option<(Literal, &str)>, NoMemory>
+    ensures { IfOk result (Reads (λ x. (x.0, x.1.now)) (BeginsWithLiteral text.now)) }
+{
+    let Some((lexical, rest)) = string(alloc, text)? else {
+        return Ok(None);
+    };
+    let Some((kind, rest)) = suffix(alloc, after_white(rest))? else {
+        return Ok(None);
+    };
+    Ok(Some((Literal { lexical, kind }, rest)))
+}
+
+pub fn object(alloc: Global, text: &str) -> Result<Option<(Object, &str)>, NoMemory>
+    ensures { IfOk result (Reads (λ x. (x.0, x.1.now)) (BeginsWithObject text.now)) }
+{
+    if let Some((resource, rest)) = resource(alloc, text)? {
+        return Ok(Some((Object::Resource(resource), rest)));
+    }
+    match literal(alloc, text)? {
+        Some((literal, rest)) => Ok(Some((Object::Literal(literal), rest))),
+        None => Ok(None),
+    }
+}
