@@ -1,7 +1,6 @@
 -- A text begins with one term at most, and what follows it is one.
-use Rattle.std.proofs.Common.{◌≡◌, ◌≢◌, ℕ, List, [], ◌∷◌, ◌⊎◌, inl, inr, Option, Some, None, ap, sym, subst, ◌∙◌, refl, arith}
+use Rattle.std.proofs.Common.{◌≡◌, ◌≢◌, ℕ, [], ◌∷◌, ◌⊎◌, inl, inr, Option, Some, None, ap, sym, subst, ◌∙◌, refl, arith}
 use Rattle.rdf_terms.specs.Lists.{Text}
-use Rattle.rdf_terms.specs.CanonicalForm.{xsd_string}
 use Rattle.rdf_terms.specs.declared.term.Literal.{Literal}
 use Rattle.rdf_terms.specs.declared.term.LiteralKind.{LiteralKind}
 use Rattle.rdf_terms.specs.declared.term.LiteralKind.TheVariants.{Typed, Tagged}
@@ -13,7 +12,7 @@ use Rattle.nquads_reader.specs.declared.quad.Resource.TheVariants.{Iri, Label}
 use Rattle.nquads_reader.specs.declared.quad.Object.{Object}
 use Rattle.nquads_reader.specs.declared.quad.Object.TheVariants.{Resource as ResourceObject, Literal as LiteralObject}
 use Rattle.nquads_reader.specs.declared.quad.StatedQuad.{StatedQuad}
-use Rattle.nquads_reader.specs.Grammar.{BeginsWithNoWhite, IsWhiteThen, IsOptionalComment, IsBlank, IsSpaced, BeginsWithIri, BeginsWithLabel, BeginsWithString, BeginsWithTag, BeginsWithResource, BeginsWithDatatype, BeginsWithNoSuffix, BeginsWithSuffix, BeginsWithLiteral, BeginsWithObject, BeginsWithGraphName, BeginsWithTerms, EndsStatement, IsStatement, States}
+use Rattle.nquads_reader.specs.Grammar.{IsWhiteThen, IsOptionalComment, IsBlank, IsSpaced, BeginsWithIri, BeginsWithLabel, BeginsWithString, BeginsWithTag, BeginsWithResource, BeginsWithDatatype, BeginsWithNoSuffix, BeginsWithSuffix, BeginsWithLiteral, BeginsWithObject, BeginsWithGraphName, BeginsWithTerms, EndsStatement, States}
 use Rattle.nquads_reader.specs.Reading.{Reads}
 use Rattle.terminals.proofs.Facts.{no_reading}
 use Rattle.nquads_reader.proofs.TerminalFacts.{iri_same, label_same, string_same, tag_same, iri_begins, label_begins, string_begins, tag_begins}

@@ -1,12 +1,11 @@
 -- Labels and statements as they are added, one after the other.
-use Rattle.std.proofs.Common.{◌≡◌, ℕ, zero, suc, ◌+◌, ◌<◌, ◌≤◌, List, [], ◌∷◌, ◌++◌, inl, inr, Option, Some, None, IfSome, length, slice_get, refl, sym, ap, subst, ◌∙◌, arith, append_assoc, append-nil}
+use Rattle.std.proofs.Common.{◌≡◌, ℕ, zero, suc, List, [], ◌∷◌, ◌++◌, inl, inr, Option, Some, None, IfSome, length, slice_get, refl, sym, ap, subst, ◌∙◌, append_assoc, append-nil}
 use Rattle.std.specs.List.{AllZip}
 use Rattle.std.proofs.lemmas.Option.{slice_get_within}
-use Rattle.rdf_terms.specs.Lists.{Text}
 use Rattle.rdf_terms.specs.Terms.{Statement, IsIri, IsIriOrBlank, IsValidTerm, IsValidStatement}
 use Rattle.rdf_terms.specs.Document.{Document, Adds, Extends, statements}
 use Rattle.rdf_terms.specs.declared.term.Term.{Term}
-use Rattle.rdf_terms.specs.declared.term.Term.TheVariants.{Iri as IriTerm, Blank, Literal as LiteralTerm}
+use Rattle.rdf_terms.specs.declared.term.Term.TheVariants.{Iri as IriTerm}
 use Rattle.rdf_terms.specs.declared.term.Label.{Label}
 use Rattle.rdf_terms.specs.declared.term.Label.TheVariants.{Named}
 use Rattle.nquads_reader.specs.declared.quad.Resource.{Resource}

@@ -3,11 +3,10 @@ use Rattle.std.proofs.Common.{◌≡◌, ℕ, zero, suc, ◌+◌, ◌-◌, List,
 use Rattle.std.specs.List.{flat_map, AllZip}
 use Rattle.std.proofs.lemmas.List.Elements.{All-nil, All-cons}
 use Rattle.rdf_terms.specs.Lists.{Text}
-use Rattle.rdf_terms.specs.Terms.{Statement}
 use Rattle.rdf_terms.specs.Document.{Document, statements}
 use Rattle.nquads_reader.specs.declared.quad.StatedQuad.{StatedQuad}
 use Rattle.nquads_reader.specs.Lines.{lines_of}
-use Rattle.nquads_reader.specs.Document.{IsFaultless, IsLeastFaulty, quads_in, AllState, mentioned, IsStatementOf, AddsAll, AreRead}
+use Rattle.nquads_reader.specs.Document.{IsFaultless, IsLeastFaulty, quads_in, AllState, mentioned, IsStatementOf, AreRead}
 use Rattle.nquads_reader.specs.Reading.{TakesStated, TakesLine}
 use Rattle.nquads_reader.proofs.Numbering.{AddsAll-append, AddsAll-extends, statements_kept}
 

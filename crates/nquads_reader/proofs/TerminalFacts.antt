@@ -1,13 +1,10 @@
 -- What is known of the terminals: each has one value and one rest, and begins with its mark.
-use Rattle.std.proofs.Common.{◌≡◌, ◌≢◌, ℕ, zero, suc, ◌+◌, ◌≤◌, ◌<◌, List, [], ◌∷◌, ◌++◌, inl, inr, length, All, false, refl, sym, ap, subst, ◌∙◌, arith, length-append}
+use Rattle.std.proofs.Common.{◌≡◌, ℕ, ◌+◌, ◌≤◌, ◌<◌, [], ◌∷◌, ◌++◌, length, ap, ◌∙◌, arith, length-append}
 use Rattle.std.specs.Prelude.{encode_utf8_all}
-use Rattle.std.proofs.lemmas.List.{append_assoc, append_cancel_left}
-use Rattle.std.proofs.lemmas.Str.{encode_ascii, encodes_same, encodes-append, length-le-encodes}
+use Rattle.std.proofs.lemmas.Str.{encode_ascii, encodes-append, length-le-encodes}
 use Rattle.rdf_terms.specs.Lists.{Text}
-use Rattle.terminals.specs.Terminal.{Characters, BeginsWith, TextBeginsWith, TextBeginsWithNone}
-use Rattle.terminals.specs.Spellings.{Spells, SpellsNone, SpellsOne, IsEscape}
-use Rattle.terminals.specs.Terminals.{IsBetween, IriRef, ShortString, LangTag, BlankNodeLabel}
-use Rattle.terminals.specs.declared.bodies.Body.{Body}
+use Rattle.terminals.specs.Terminal.{Characters, TextBeginsWith}
+use Rattle.terminals.specs.Terminals.{IriRef, ShortString, LangTag, BlankNodeLabel}
 use Rattle.terminals.specs.declared.bodies.Quote.TheVariants.{Double}
 use Rattle.terminals.specs.declared.labels.Grammar.TheVariants.{NQuads}
 use Rattle.terminals.proofs.Facts.{same_reading, iri_one_value, string_one_value, label_one_value, tag_one_value}

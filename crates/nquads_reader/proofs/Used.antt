@@ -1,14 +1,12 @@
 -- Each node of a document that was read stands in a quad.
 use Rattle.std.proofs.Common.{◌≡◌, ℕ, zero, suc, ◌<◌, Bool, true, false, ◌||◌, List, [], ◌∷◌, ◌++◌, inl, inr, ◌⊎◌, Option, Some, None, length, slice_get, refl, ap, sym, subst, ◌∙◌, arith, eqb, eq-eqb}
 use Rattle.std.specs.List.{flat_map, AllZip}
-use Rattle.std.proofs.lemmas.Option.{slice_get_within}
 use Rattle.rdf_terms.specs.Lists.{Text, In, AreDistinct}
 use Rattle.rdf_terms.specs.Terms.{Statement}
 use Rattle.rdf_terms.specs.Dataset.{is_node, is_named_by, mentions, IsUsed}
 use Rattle.rdf_terms.specs.Document.{Adds}
 use Rattle.rdf_terms.specs.declared.term.Term.{Term}
 use Rattle.rdf_terms.specs.declared.term.Label.{Label}
-use Rattle.rdf_terms.specs.declared.term.Label.TheVariants.{Named}
 use Rattle.nquads_reader.specs.declared.quad.Resource.{Resource}
 use Rattle.nquads_reader.specs.declared.quad.Resource.TheVariants.{Iri, Label as LabelResource}
 use Rattle.nquads_reader.specs.declared.quad.Object.{Object}

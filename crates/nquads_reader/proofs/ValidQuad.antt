@@ -1,5 +1,5 @@
 -- The texts of what a faultless line states are valid.
-use Rattle.std.proofs.Common.{◌≡◌, ℕ, ◌<◌, Bool, true, false, not, nat_lt, List, Option, Some, None, IfSome, All, inl, inr, sym, subst, refl, true≢false}
+use Rattle.std.proofs.Common.{◌≡◌, ℕ, ◌<◌, Bool, true, false, not, nat_lt, Option, Some, None, IfSome, All, inl, inr, sym, subst, refl, true≢false}
 use Rattle.std.specs.List.{list_all}
 use Rattle.std.specs.Str.{IsUtf8}
 use Rattle.std.proofs.lemmas.Bool.{ltb-true}

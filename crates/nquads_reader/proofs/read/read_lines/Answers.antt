@@ -1,10 +1,8 @@
 use Rattle.std.proofs.Common.{◌≡◌, ◌+◌, ◌∷◌, length, drop, sym, ap, refl, ◌∙◌, arith}
 use Rattle.std.proofs.lemmas.Bool.{eqb-true}
 use Rattle.std.proofs.lemmas.List.{drop-drop}
-use Rattle.rdf_terms.specs.Document.{statements}
 use Rattle.nquads_reader.specs.Lines.{lines_of}
 use Rattle.nquads_reader.specs.Document.{IsNotUtf8, IsBad, HasRelativeIri}
-use Rattle.nquads_reader.specs.Reading.{IsFaultOf}
 use Rattle.nquads_reader.proofs.Room.{quads_room, labels_room}
 use Rattle.nquads_reader.proofs.ReadLines.{line_read, all_read, least_faulty}
 use Rattle.nquads_reader.proofs.read.read_lines.Goals as goal
