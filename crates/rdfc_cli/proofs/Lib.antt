@@ -2,4 +2,5 @@ pub mod Reading
 pub mod Putting
 pub mod Decimals
 pub mod Noting
-pub mod NoNodes
+pub mod NodeOrder
+pub mod Ordering

@@ -1,46 +1,89 @@
 -- What a run answers, what it writes and why: a relation between the files, the sinks and the status.
-use Rattle.std.specs.Prelude.{◌≡◌, ℕ, ◌<◌, ◌≤◌, [], length, Option, IfSome}
+use Rattle.std.specs.Prelude.{◌≡◌, ℕ, ◌<◌, ◌≤◌, List, ◌++◌, length, Option, IfSome, codes}
 use Rattle.std.specs.Io.KnownBytes.{Appends}
-use Rattle.rdf_terms.specs.Lists.{Text}
+use Rattle.sha2.specs.Sha256.{sha256}
+use Rattle.hex.specs.Hex.{encode_lower}
+use Rattle.rdf_terms.specs.Lists.{Text, Permutes}
+use Rattle.rdf_terms.specs.Terms.{Statement}
 use Rattle.rdf_terms.specs.Dataset.{Dataset}
 use Rattle.rdf_terms.specs.CanonicalForm.{issued_names, canonical_nquads}
 use Rattle.rdf_terms.specs.declared.term.Prefix.TheVariants.{Canonical}
+use Rattle.rdf_terms.specs.declared.term.Label.{Label}
 use Rattle.outside.specs.Faults.{Rose}
-use Rattle.nquads_reader.specs.Lines.{lines_of}
-use Rattle.nquads_reader.specs.Document.{IsNQuads, IsLeastOutside}
+use Rattle.nquads_reader.specs.Document.{IsNQuads, IsCauseOf}
+use Rattle.nquads_reader.specs.declared.TheConstants.{MAX_QUADS}
+use Rattle.nquads_reader.specs.declared.fault.ReadFault.TheVariants.{NotUtf8 as NotUtf8Fault, BadLine as BadLineFault, RelativeIri as RelativeIriFault, TooManyQuads as TooManyQuadsFault}
+use Rattle.canon_model.specs.Profile.{sha256_each}
+use Rattle.canon_model.specs.FirstDegree.{hash_first_degree_quads}
+use Rattle.rdfc_cli.specs.Order.{IsOrderBy, HasEqualHashes}
 use Rattle.rdfc_cli.specs.Puts.{IsCutShort}
 use Rattle.rdfc_cli.specs.declared.files.TheConstants.{FILE_LIMIT}
 use Rattle.rdfc_cli.specs.declared.words.Task.{Task}
-use Rattle.rdfc_cli.specs.declared.words.Task.TheVariants.{Canon}
+use Rattle.rdfc_cli.specs.declared.words.Task.TheVariants.{Canon, Hash}
 use Rattle.rdfc_cli.specs.declared.status.Status.{Status}
 use Rattle.rdfc_cli.specs.declared.status.Status.TheVariants.{Done, Usage, Refused, ReadFault, WriteFault, NoMemory}
 use Rattle.rdfc_cli.specs.declared.status.Cause.{Cause}
-use Rattle.rdfc_cli.specs.declared.status.Cause.TheVariants.{TooLong, NotYet}
+use Rattle.rdfc_cli.specs.declared.status.Cause.TheVariants.{TooLong, NotUtf8, BadLine, RelativeIri, TooManyQuads, EqualHashes}
 
 -- ---- an accepted file and its text
 
--- a file with these bytes is read, and states this dataset; no blank node can be read so far
-pub record Accepts (bytes : Text) (D : Dataset) : Type 0 where
+-- the bytes are within the limit and in the grammar, and state these distinct quads, no more than the limit, over nodes with these labels
+pub record States (bytes : Text) (labels : List Label) (stated : List Statement) : Type 0 where
   pub within : length bytes ≤ FILE_LIMIT
-  pub reads : IsNQuads bytes D.statements
-  pub no_nodes : D.nodes ≡ 0
+  pub reads : IsNQuads bytes labels stated
+  pub few : length stated ≤ MAX_QUADS
 
--- the text of a task for a dataset
-abbrev pub text_of : Task → Dataset → Text
-text_of Canon D = canonical_nquads D (issued_names Canonical [])
+-- a file with these bytes is read, and the dataset has exactly its quads, in any order
+pub record Accepts (bytes : Text) (D : Dataset) : Type 0 where
+  pub labels : List Label
+  pub stated : List Statement
+  pub states : States bytes labels stated
+  pub nodes_are : D.nodes ≡ length labels
+  pub quads_are : Permutes stated D.statements
+
+-- the first-degree hash of a node (RDF Dataset Canonicalization, section 4.6)
+abbrev pub first_degree_hash : Dataset → ℕ → Text
+first_degree_hash D n = hash_first_degree_quads sha256_each D n
+
+-- the canonical form where the hashes of all nodes differ: nodes get canonical identifiers in the order of their hashes (section 4.4)
+pub record IsCanonicalForm (D : Dataset) (text : Text) : Type 0 where
+  pub order : List ℕ
+  pub by_hash : IsOrderBy (first_degree_hash D) D.nodes order
+  pub text_is : text ≡ canonical_nquads D (issued_names Canonical order)
+
+-- what the task writes for a canonical form
+abbrev pub written_for : Task → Text → Text
+written_for Canon form = form
+written_for Hash form = encode_lower (sha256 form) ++ codes "\n"
+
+-- the text of the task for a dataset
+pub record IsTextOf (task : Task) (D : Dataset) (text : Text) : Type 0 where
+  pub form : Text
+  pub is_form : IsCanonicalForm D form
+  pub text_is : text ≡ written_for task form
 
 -- the text of the task for a file with these bytes
 pub record IsOutput (task : Task) (bytes text : Text) : Type 0 where
   pub dataset : Dataset
   pub accepts : Accepts bytes dataset
-  pub text_is : text ≡ text_of task dataset
+  pub is_text : IsTextOf task dataset text
 
 -- ---- why a file is refused
 
--- the causes exclude one another, and none of them holds of a file that is accepted
+-- two different nodes have one first-degree hash
+pub record HasTwins (bytes : Text) : Type 0 where
+  pub dataset : Dataset
+  pub accepts : Accepts bytes dataset
+  pub equal : HasEqualHashes (first_degree_hash dataset) dataset.nodes
+
+-- the causes exclude one another, and none of them holds of a file that is accepted and has a canonical form
 abbrev pub IsCause : Text → Cause → Type 0
 IsCause bytes TooLong = FILE_LIMIT < length bytes
-IsCause bytes (NotYet line) = (length bytes ≤ FILE_LIMIT) × IsLeastOutside (lines_of bytes) line
+IsCause bytes (NotUtf8 line) = (length bytes ≤ FILE_LIMIT) × IsCauseOf bytes (NotUtf8Fault line)
+IsCause bytes (BadLine line) = (length bytes ≤ FILE_LIMIT) × IsCauseOf bytes (BadLineFault line)
+IsCause bytes (RelativeIri line) = (length bytes ≤ FILE_LIMIT) × IsCauseOf bytes (RelativeIriFault line)
+IsCause bytes TooManyQuads = (length bytes ≤ FILE_LIMIT) × IsCauseOf bytes TooManyQuadsFault
+IsCause bytes EqualHashes = HasTwins bytes
 
 -- ---- the answer of a command
 

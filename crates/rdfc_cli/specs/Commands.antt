@@ -2,11 +2,12 @@
 use Rattle.std.specs.Prelude.{◌≡◌, ◌≢◌, List, [], ◌∷◌, codes}
 use Rattle.rdf_terms.specs.Lists.{Text}
 use Rattle.rdfc_cli.specs.declared.words.Task.{Task}
-use Rattle.rdfc_cli.specs.declared.words.Task.TheVariants.{Canon}
+use Rattle.rdfc_cli.specs.declared.words.Task.TheVariants.{Canon, Hash}
 
 -- the first word of a command
 abbrev pub word_of : Task → Text
 word_of Canon = codes "canon"
+word_of Hash = codes "hash"
 
 -- a file's word is not empty and does not begin with a dash
 abbrev pub IsFileWord : Text → Type 0

@@ -4,3 +4,6 @@ pub mod Puts
 pub mod Notes
 pub mod NoteParts
 pub mod Answers
+pub mod Forms
+pub mod TextCauses
+pub mod Order

@@ -5,16 +5,21 @@ use Rattle.rdf_terms.specs.Lists.{Text}
 use Rattle.rdf_terms.specs.Numeral.{numeral}
 use Rattle.outside.specs.Faults.{Rose}
 use Rattle.rdfc_cli.specs.Puts.{IsCutShort}
+use Rattle.nquads_reader.specs.declared.TheConstants.{MAX_QUADS}
 use Rattle.rdfc_cli.specs.declared.files.TheConstants.{FILE_LIMIT}
 use Rattle.rdfc_cli.specs.declared.status.Status.{Status}
 use Rattle.rdfc_cli.specs.declared.status.Status.TheVariants.{Done, Usage, Refused, ReadFault, WriteFault, NoMemory}
 use Rattle.rdfc_cli.specs.declared.status.Cause.{Cause}
-use Rattle.rdfc_cli.specs.declared.status.Cause.TheVariants.{TooLong, NotYet}
+use Rattle.rdfc_cli.specs.declared.status.Cause.TheVariants.{TooLong, NotUtf8, BadLine, RelativeIri, TooManyQuads, EqualHashes}
 
 -- what is said of a refused file, behind its word
 abbrev pub cause_text : Cause → Text
 cause_text TooLong = codes ": longer than " ++ (numeral FILE_LIMIT ++ codes " bytes")
-cause_text (NotYet line) = codes ":" ++ (numeral line ++ codes ": not read yet")
+cause_text (NotUtf8 line) = codes ":" ++ (numeral line ++ codes ": not UTF-8")
+cause_text (BadLine line) = codes ":" ++ (numeral line ++ codes ": not an N-Quads line")
+cause_text (RelativeIri line) = codes ":" ++ (numeral line ++ codes ": IRI without a scheme")
+cause_text TooManyQuads = codes ": more than " ++ (numeral MAX_QUADS ++ codes " quads")
+cause_text EqualHashes = codes ": equal first-degree hashes"
 
 -- what is said of a status, where this is the file's word
 abbrev pub status_text : Text → Status → Text

@@ -1,21 +1,23 @@
-ghost use Rattle.std.specs.Prelude.{◌≡◌, ◌↔◌, [], map, string_bytes, All, IfOk, IfErr, IfSome};
+ghost use Rattle.std.specs.Prelude.{◌≡◌, ◌↔◌, ◌≤◌, [], length, map, string_bytes, All, IfOk, IfErr, IfSome};
 ghost use Rattle.rdf_terms.specs.Lists.{Text};
-ghost use Rattle.rdf_terms.specs.Terms.{IsValidStatement};
+ghost use Rattle.nquads_reader.specs.Document.{IsCauseOf};
 ghost use Rattle.rdf_terms.specs.Document.{statements, dataset};
 ghost use Rattle.rdfc_cli.specs.Commands.{IsCommand, IsNoCommand, file_word};
-ghost use Rattle.rdfc_cli.specs.Answers.{Accepts, text_of, seen, Stops, Answers};
+ghost use Rattle.rdfc_cli.specs.Answers.{States, Accepts, IsOutput, seen, Stops, Answers};
+ghost use Rattle.rdfc_cli.specs.TextCauses.{IsTextCause};
 ghost use Rattle.rdfc_cli.specs.Notes.{IsNoted};
 ghost use Rattle.rdfc_cli.specs.declared.words.Task.{Task};
 
-use crate::files::{LoadFault, load};
+use crate::files::{FILE_LIMIT, LoadFault, load};
+use crate::form::{FormFault, text_of};
 use crate::notes::put_note;
 use crate::status::{Cause, Refusal, Status};
 use crate::words::{Command, Task, read_words};
 use crate::write::put_all;
-use canonical_writer::{ListNames, write_sorted};
+use dataset_index::Dataset;
 use nquads_reader::{ReadFault, read_nquads};
 use outside::{Shelf, Sink};
-use rdf_terms::{Bytes, NoMemory, Parsed, Prefix};
+use rdf_terms::{Bytes, NoMemory, Parsed};
 use std::alloc::Global;
 
 fn refused(cause: Cause) -> Status
@@ -24,36 +26,83 @@ fn refused(cause: Cause) -> Status
     Status::Refused(Refusal { file: 0, cause })
 }
 
-// Reads the file of the command whole, or says with which status the run stops.
-fn read_file<S: Shelf>(alloc: Global, shelf: &mut S, file: &str) -> Result<Parsed, Status>
-    ensures accepted { IfOk result (λ parsed. IfSome (S.told shelf.old file.now) (λ bytes. Accepts bytes (dataset parsed))) }
-    ensures valid { IfOk result (λ parsed. All (IsValidStatement 0) (statements parsed)) }
-    ensures stops { IfErr result (Stops (seen S.told S.faults shelf.old shelf.new file.now)) }
+fn refused_by_reader(fault: ReadFault) -> Status
+    ensures { (bytes : Text) → length bytes ≤ FILE_LIMIT → IsCauseOf bytes fault → IsTextCause bytes result }
 {
-    let bytes = match load(alloc, shelf, file) {
-        Ok(bytes) => bytes,
-        Err(LoadFault::Failed) => return Err(Status::ReadFault { file: 0 }),
-        Err(LoadFault::TooLong) => return Err(refused(Cause::TooLong)),
-        Err(LoadFault::NoMemory) => return Err(Status::NoMemory),
-    };
-    match read_nquads(alloc, &bytes) {
-        Ok(parsed) => Ok(parsed),
-        Err(ReadFault::NotYet { line }) => Err(refused(Cause::NotYet { line })),
-        Err(ReadFault::NoMemory) => Err(Status::NoMemory),
+    match fault {
+        ReadFault::NotUtf8 { line } => refused(Cause::NotUtf8 { line }),
+        ReadFault::BadLine { line } => refused(Cause::BadLine { line }),
+        ReadFault::RelativeIri { line } => refused(Cause::RelativeIri { line }),
+        ReadFault::TooManyQuads => refused(Cause::TooManyQuads),
+        ReadFault::NoMemory => Status::NoMemory,
     }
 }
 
-// The text that the task asks for. No blank node can be read so far, so none needs a name.
-fn output_of(alloc: Global, task: Task, parsed: &Parsed) -> Result<Bytes, NoMemory>
-    requires { All (IsValidStatement 0) (statements parsed.now) }
-    ensures { IfOk result (λ text. text ≡ text_of task (dataset parsed.now)) }
+// What the bytes of a file within the limit state.
+fn read_document(alloc: Global, bytes: &[u8]) -> Result<Parsed, Status>
+    requires { length bytes.now ≤ FILE_LIMIT }
+    ensures stated { IfOk result (λ parsed. States bytes.now parsed.labels (statements parsed)) }
+    ensures cause { IfErr result (IsTextCause bytes.now) }
 {
-    match task {
-        Task::Canon => {
-            let names = ListNames::new(alloc, &[], Prefix::Canonical)?;
-            write_sorted(alloc, parsed.terms(), parsed.quads(), &names)
-        }
+    match read_nquads(alloc, bytes) {
+        Ok(parsed) => Ok(parsed),
+        Err(fault) => Err(refused_by_reader(fault)),
     }
+}
+
+// The dataset of a document.
+fn dataset_of_file(alloc: Global, bytes: &[u8]) -> Result<Dataset, Status>
+    requires { length bytes.now ≤ FILE_LIMIT }
+    ensures accepted { IfOk result (λ d. Accepts bytes.now (dataset d)) }
+    ensures cause { IfErr result (IsTextCause bytes.now) }
+{
+    let parsed = read_document(alloc, bytes)?;
+    match Dataset::build(alloc, parsed) {
+        Ok(dataset) => Ok(dataset),
+        Err(NoMemory) => Err(Status::NoMemory),
+    }
+}
+
+// The text of the task for the bytes of a file within the limit.
+fn text_of_file(alloc: Global, task: Task, bytes: &[u8]) -> Result<Bytes, Status>
+    requires { length bytes.now ≤ FILE_LIMIT }
+    ensures output { IfOk result (IsOutput task bytes.now) }
+    ensures cause { IfErr result (IsTextCause bytes.now) }
+{
+    let dataset = dataset_of_file(alloc, bytes)?;
+    match text_of(alloc, task, &dataset) {
+        Ok(text) => Ok(text),
+        Err(FormFault::EqualHashes) => Err(refused(Cause::EqualHashes)),
+        Err(FormFault::NoMemory) => Err(Status::NoMemory),
+    }
+}
+
+// Reads the file of the command whole, or says with which status the run stops.
+fn read_file<S: Shelf>(alloc: Global, shelf: &mut S, file: &str) -> Result<Vec<u8>, Status>
+    ensures whole { IfOk result (λ bytes. IfSome (S.told shelf.old file.now) (λ told. bytes.items ≡ told)) }
+    ensures within { IfOk result (λ bytes. length bytes.items ≤ FILE_LIMIT) }
+    ensures stops { IfErr result (Stops (seen S.told S.faults shelf.old shelf.new file.now)) }
+{
+    match load(alloc, shelf, file) {
+        Ok(bytes) => Ok(bytes),
+        Err(LoadFault::Failed) => Err(Status::ReadFault { file: 0 }),
+        Err(LoadFault::TooLong) => Err(refused(Cause::TooLong)),
+        Err(LoadFault::NoMemory) => Err(Status::NoMemory),
+    }
+}
+
+// The whole output of the command.
+fn output_of<S: Shelf>(
+    alloc: Global,
+    task: Task,
+    shelf: &mut S,
+    file: &str,
+) -> Result<Bytes, Status>
+    ensures output { IfOk result (λ text. IfSome (S.told shelf.old file.now) (λ told. IsOutput task told text)) }
+    ensures stops { IfErr result (Stops (seen S.told S.faults shelf.old shelf.new file.now)) }
+{
+    let bytes = read_file(alloc, shelf, file)?;
+    text_of_file(alloc, task, &bytes)
 }
 
 fn execute<S: Shelf, K: Sink>(
@@ -64,12 +113,9 @@ fn execute<S: Shelf, K: Sink>(
 ) -> Status
     ensures { Answers K.taken K.faults command.entry.task (seen S.told S.faults shelf.old shelf.new command.entry.file.now) out.old out.new result }
 {
-    let parsed = match read_file(alloc, shelf, command.file) {
-        Ok(parsed) => parsed,
+    let text = match output_of(alloc, command.task, shelf, command.file) {
+        Ok(text) => text,
         Err(status) => return status,
-    };
-    let Ok(text) = output_of(alloc, command.task, &parsed) else {
-        return Status::NoMemory;
     };
     match put_all(out, text.as_slice()) {
         Ok(()) => Status::Done,

@@ -1,14 +1,16 @@
-ghost use Rattle.std.specs.Prelude.{map};
+ghost use Rattle.std.specs.Prelude.{◌++◌, map};
 ghost use Rattle.rdf_terms.specs.Lists.{joined};
+ghost use Rattle.rdf_terms.specs.Numeral.{numeral};
 ghost use Rattle.outside.specs.Faults.{HasCause};
 ghost use Rattle.rdfc_cli.specs.Puts.{Puts};
-ghost use Rattle.rdfc_cli.specs.Notes.{status_text, note_line, IsNoted};
+ghost use Rattle.rdfc_cli.specs.Notes.{cause_text, status_text, note_line, IsNoted};
 ghost use Rattle.rdfc_cli.specs.NoteParts.{part_text};
 
 use crate::decimal::Decimal;
 use crate::files::FILE_LIMIT;
 use crate::status::{Cause, Refusal, Status};
 use crate::write::put_all;
+use nquads_reader::MAX_QUADS;
 use outside::{Failed, Sink};
 
 // A part of a note.
@@ -38,6 +40,44 @@ fn put_parts<N: Sink>(notes: &mut N, parts: &[Part<'_>]) -> Result<(), Failed>
     Ok(())
 }
 
+fn put_cause<N: Sink>(notes: &mut N, cause: Cause) -> Result<(), Failed>
+    ensures bytes { Puts (N.taken notes.old) (N.taken notes.new) result (cause_text cause) }
+    ensures cause { HasCause (N.faults notes.old) (N.faults notes.new) result }
+{
+    match cause {
+        Cause::TooLong => put_count(notes, ": longer than ", FILE_LIMIT as u64, " bytes"),
+        Cause::NotUtf8 { line } => put_count(notes, ":", line, ": not UTF-8"),
+        Cause::BadLine { line } => put_count(notes, ":", line, ": not an N-Quads line"),
+        Cause::RelativeIri { line } => put_count(notes, ":", line, ": IRI without a scheme"),
+        Cause::TooManyQuads => put_count(notes, ": more than ", MAX_QUADS, " quads"),
+        Cause::EqualHashes => put_all(notes, b": equal first-degree hashes"),
+    }
+}
+
+// A number between two texts.
+fn put_count<'a, N: Sink>(
+    notes: &mut N,
+    before: &'a str,
+    number: u64,
+    behind: &'a str,
+) -> Result<(), Failed>
+    ensures bytes { Puts (N.taken notes.old) (N.taken notes.new) result (before.now ++ (numeral number ++ behind.now)) }
+    ensures cause { HasCause (N.faults notes.old) (N.faults notes.new) result }
+{
+    put_parts(
+        notes,
+        &[Part::Text(before), Part::Number(number), Part::Text(behind)],
+    )
+}
+
+fn put_refusal<N: Sink>(notes: &mut N, file: &str, cause: Cause) -> Result<(), Failed>
+    ensures bytes { Puts (N.taken notes.old) (N.taken notes.new) result (file.now ++ cause_text cause) }
+    ensures cause { HasCause (N.faults notes.old) (N.faults notes.new) result }
+{
+    put_all(notes, file.as_bytes())?;
+    put_cause(notes, cause)
+}
+
 fn put_status<N: Sink>(notes: &mut N, status: Status, file: &str) -> Result<(), Failed>
     ensures bytes { Puts (N.taken notes.old) (N.taken notes.new) result (status_text file.now status) }
     ensures cause { HasCause (N.faults notes.old) (N.faults notes.new) result }
@@ -45,26 +85,7 @@ fn put_status<N: Sink>(notes: &mut N, status: Status, file: &str) -> Result<(), 
     match status {
         Status::Done => Ok(()),
         Status::Usage => put_all(notes, b"the words are not a command"),
-        Status::Refused(Refusal { cause, .. }) => match cause {
-            Cause::TooLong => put_parts(
-                notes,
-                &[
-                    Part::Text(file),
-                    Part::Text(": longer than "),
-                    Part::Number(FILE_LIMIT as u64),
-                    Part::Text(" bytes"),
-                ],
-            ),
-            Cause::NotYet { line } => put_parts(
-                notes,
-                &[
-                    Part::Text(file),
-                    Part::Text(":"),
-                    Part::Number(line),
-                    Part::Text(": not read yet"),
-                ],
-            ),
-        },
+        Status::Refused(Refusal { cause, .. }) => put_refusal(notes, file, cause),
         Status::ReadFault { .. } => {
             put_parts(notes, &[Part::Text(file), Part::Text(": read failed")])
         }

@@ -23,7 +23,12 @@ pub struct Refusal {
 #[derive(Clone, Copy, Debug, PartialEq, Eq)]
 pub enum Cause {
     TooLong,
-    NotYet { line: u64 },
+    NotUtf8 { line: u64 },
+    BadLine { line: u64 },
+    RelativeIri { line: u64 },
+    TooManyQuads,
+    /// Two nodes have the same first-degree hash (RDF Dataset Canonicalization, section 4.6).
+    EqualHashes,
 }
 
 impl Status {

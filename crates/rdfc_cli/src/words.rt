@@ -7,6 +7,8 @@ ghost use Rattle.rdfc_cli.specs.declared.words.Task.{Task};
 pub enum Task {
     /// Write its canonical form.
     Canon,
+    /// Write the hash of its canonical form.
+    Hash,
 }
 
 /// What the words of the command line ask for.
@@ -22,6 +24,7 @@ fn task_of(word: &str) -> Option<Task>
 {
     match word {
         "canon" => Some(Task::Canon),
+        "hash" => Some(Task::Hash),
         _ => None,
     }
 }

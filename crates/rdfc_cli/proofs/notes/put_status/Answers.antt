@@ -1,7 +1,4 @@
 use Rattle.rdfc_cli.proofs.notes.put_status.Goals as goal
 
-pub returns-in-TooLong-clause-bytes : goal.returns-in-TooLong-clause-bytes
-returns-in-TooLong-clause-bytes g c = rw (c.in-Refused.is, c.in-TooLong.is) c.put_parts.ensures.bytes
-
 pub returns-in-ReadFault-clause-bytes : goal.returns-in-ReadFault-clause-bytes
-returns-in-ReadFault-clause-bytes g c = rw c.in-ReadFault.is c.put_parts-in-ReadFault.ensures.bytes
+returns-in-ReadFault-clause-bytes g c = rw c.in-ReadFault.is c.put_parts.ensures.bytes

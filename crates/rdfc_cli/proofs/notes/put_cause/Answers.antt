@@ -1,0 +1,16 @@
+use Rattle.rdfc_cli.proofs.notes.put_cause.Goals as goal
+
+pub returns-in-NotUtf8-clause-bytes : goal.returns-in-NotUtf8-clause-bytes
+returns-in-NotUtf8-clause-bytes g c = rw c.in-NotUtf8.is c.put_count-in-NotUtf8.ensures.bytes
+
+pub returns-in-BadLine-clause-bytes : goal.returns-in-BadLine-clause-bytes
+returns-in-BadLine-clause-bytes g c = rw c.in-BadLine.is c.put_count-in-BadLine.ensures.bytes
+
+pub returns-in-RelativeIri-clause-bytes : goal.returns-in-RelativeIri-clause-bytes
+returns-in-RelativeIri-clause-bytes g c = rw c.in-RelativeIri.is c.put_count-in-RelativeIri.ensures.bytes
+
+pub returns-in-TooManyQuads-clause-bytes : goal.returns-in-TooManyQuads-clause-bytes
+returns-in-TooManyQuads-clause-bytes g c = rw c.in-TooManyQuads.is c.put_count-in-TooManyQuads.ensures.bytes
+
+pub returns-in-EqualHashes-clause-bytes : goal.returns-in-EqualHashes-clause-bytes
+returns-in-EqualHashes-clause-bytes g c = rw c.in-EqualHashes.is c.put_all.ensures.bytes
