@@ -38,8 +38,9 @@ fn counts<S: Shelf>(
     for _ in 0..8 {
         let answer = shelf.next(name, buf);
         answers.push(answer)?;
-        if answer == Ok(0) || answer.is_err() {
-            break;
+        match answer {
+            Ok(0) | Err(_) => break,
+            Ok(_) => {}
         }
     }
     Ok(answers)

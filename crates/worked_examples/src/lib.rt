@@ -8,6 +8,10 @@ mod edges;
 #[cfg(test)]
 mod escapes;
 #[cfg(test)]
+mod grammar;
+#[cfg(test)]
+mod hashes;
+#[cfg(test)]
 mod issuers;
 #[cfg(test)]
 mod references;

@@ -17,6 +17,24 @@ struct Case<'a> {
     notes: &'a [u64],
 }
 
+// Two nodes with different first-degree hashes, and the canonical form: the example of unique
+// hashes of RDF Dataset Canonicalization.
+const DIFFERENT: &str = "<http://example.com/#p> <http://example.com/#q> _:e0 .
+<http://example.com/#p> <http://example.com/#r> _:e1 .
+_:e0 <http://example.com/#s> <http://example.com/#u> .
+_:e1 <http://example.com/#t> <http://example.com/#u> .
+";
+
+const NAMED: &str = "<http://example.com/#p> <http://example.com/#q> _:c14n0 .
+<http://example.com/#p> <http://example.com/#r> _:c14n1 .
+_:c14n0 <http://example.com/#s> <http://example.com/#u> .
+_:c14n1 <http://example.com/#t> <http://example.com/#u> .
+";
+
+// The SHA-256 of no bytes, and a line feed.
+const HASH_OF_NOTHING: &str = "e3b0c44298fc1c149afbf4c8996fb92427ae41e4649b934ca495991b7852b855
+";
+
 // How a run ended, and what it wrote and noted.
 #[derive(Drop)]
 struct Ended {
@@ -54,11 +72,8 @@ fn canon(text: &str) -> Case<'_> {
     }
 }
 
-fn not_yet(line: u64) -> Status {
-    Status::Refused(Refusal {
-        file: 0,
-        cause: Cause::NotYet { line },
-    })
+fn refused(cause: Cause) -> Status {
+    Status::Refused(Refusal { file: 0, cause })
 }
 
 #[test]
@@ -73,6 +88,8 @@ fn canon_writes_each_line_once_and_in_order(rt: HostRuntime) -> Result<(), Fail>
             "<e:b> <e:p> <e:o> .\n<e:a> <e:p> <e:o> .\n<e:b> <e:p> <e:o> .\n",
             "<e:a> <e:p> <e:o> .\n<e:b> <e:p> <e:o> .\n",
         ),
+        ("_:x <e:p> _:x _:x.", "_:c14n0 <e:p> _:c14n0 _:c14n0 .\n"),
+        (DIFFERENT, NAMED),
     ];
     for (text, want) in cases {
         let ended = outcome_of(rt.alloc(), &canon(text))?;
@@ -84,17 +101,48 @@ fn canon_writes_each_line_once_and_in_order(rt: HostRuntime) -> Result<(), Fail>
 }
 
 #[test]
+fn hash_writes_the_digest_of_the_canonical_text(rt: HostRuntime) -> Result<(), Fail> {
+    let case = Case {
+        words: &["hash", "f"],
+        ..canon("# no quad\n")
+    };
+    let ended = outcome_of(rt.alloc(), &case)?;
+    assert_eq!(rt; ended.status, Status::Done);
+    assert_eq!(rt; ended.out.bytes(), HASH_OF_NOTHING.as_bytes());
+    Ok(())
+}
+
+#[test]
 fn what_is_not_done_is_noted_and_nothing_is_written(rt: HostRuntime) -> Result<(), Fail> {
     let wrong = "rdfc: the words are not a command\n";
-    let unread = "rdfc: f:1: not read yet\n";
-    let cases: [(&[&str], &str, &[u64], Status, &str); 9] = [
+    let cases: [(&[&str], &str, &[u64], Status, &str); 11] = [
         (&[], "", &[], Status::Usage, wrong),
         (&["canon"], "", &[], Status::Usage, wrong),
         (&["canon", ""], "", &[], Status::Usage, wrong),
         (&["canon", "-f"], "", &[], Status::Usage, wrong),
         (&["canon", "f", "f"], "", &[], Status::Usage, wrong),
         (&["--help"], "", &[], Status::Usage, wrong),
-        (&["canon", "f"], "<e:a> .", &[], not_yet(1), unread),
+        (
+            &["hash", "f"],
+            "<e:a> .",
+            &[],
+            refused(Cause::BadLine { line: 1 }),
+            "rdfc: f:1: not an N-Quads line\n",
+        ),
+        (
+            &["canon", "f"],
+            "#\n<a> <e:p> <e:o> .",
+            &[],
+            refused(Cause::RelativeIri { line: 2 }),
+            "rdfc: f:2: IRI without a scheme\n",
+        ),
+        (
+            &["canon", "f"],
+            "_:a <e:p> _:b .\n_:b <e:p> _:a .",
+            &[],
+            refused(Cause::EqualHashes),
+            "rdfc: f: equal first-degree hashes\n",
+        ),
         (
             &["canon", "g"],
             "",
@@ -160,7 +208,7 @@ fn a_note_that_fails_changes_no_status(rt: HostRuntime) -> Result<(), Fail> {
         ..canon("no line")
     };
     let ended = outcome_of(rt.alloc(), &case)?;
-    assert_eq!(rt; ended.status, not_yet(1));
+    assert_eq!(rt; ended.status, refused(Cause::BadLine { line: 1 }));
     assert_eq!(rt; ended.notes.bytes(), b"rdfc: ".as_slice());
     Ok(())
 }
