@@ -51,7 +51,7 @@ fn read_document(alloc: Global, bytes: &[u8]) -> Result<Parsed, Status>
 }
 
 // The dataset of a document.
-fn dataset_of_file(alloc: Global, bytes: &[u8]) -> Result<Dataset, Status>
+fn dataset_of_bytes(alloc: Global, bytes: &[u8]) -> Result<Dataset, Status>
     requires { length bytes.now ≤ FILE_LIMIT }
     ensures accepted { IfOk result (λ d. Accepts bytes.now (dataset d)) }
     ensures cause { IfErr result (IsTextCause bytes.now) }
@@ -60,20 +60,6 @@ fn dataset_of_file(alloc: Global, bytes: &[u8]) -> Result<Dataset, Status>
     match Dataset::build(alloc, parsed) {
         Ok(dataset) => Ok(dataset),
         Err(NoMemory) => Err(Status::NoMemory),
-    }
-}
-
-// The text of the task for the bytes of a file within the limit.
-fn text_of_file(alloc: Global, task: Task, bytes: &[u8]) -> Result<Bytes, Status>
-    requires { length bytes.now ≤ FILE_LIMIT }
-    ensures output { IfOk result (IsOutput task bytes.now) }
-    ensures cause { IfErr result (IsTextCause bytes.now) }
-{
-    let dataset = dataset_of_file(alloc, bytes)?;
-    match text_of(alloc, task, &dataset) {
-        Ok(text) => Ok(text),
-        Err(FormFault::EqualHashes) => Err(refused(Cause::EqualHashes)),
-        Err(FormFault::NoMemory) => Err(Status::NoMemory),
     }
 }
 
@@ -91,6 +77,15 @@ fn read_file<S: Shelf>(alloc: Global, shelf: &mut S, file: &str) -> Result<Vec<u
     }
 }
 
+// The dataset of the command's file, whose bytes are not kept.
+fn dataset_of_file<S: Shelf>(alloc: Global, shelf: &mut S, file: &str) -> Result<Dataset, Status>
+    ensures accepted { IfOk result (λ d. IfSome (S.told shelf.old file.now) (λ told. Accepts told (dataset d))) }
+    ensures stops { IfErr result (Stops (seen S.told S.faults shelf.old shelf.new file.now)) }
+{
+    let bytes = read_file(alloc, shelf, file)?;
+    dataset_of_bytes(alloc, &bytes)
+}
+
 // The whole output of the command.
 fn output_of<S: Shelf>(
     alloc: Global,
@@ -101,8 +96,12 @@ fn output_of<S: Shelf>(
     ensures output { IfOk result (λ text. IfSome (S.told shelf.old file.now) (λ told. IsOutput task told text)) }
     ensures stops { IfErr result (Stops (seen S.told S.faults shelf.old shelf.new file.now)) }
 {
-    let bytes = read_file(alloc, shelf, file)?;
-    text_of_file(alloc, task, &bytes)
+    let dataset = dataset_of_file(alloc, shelf, file)?;
+    match text_of(alloc, task, &dataset) {
+        Ok(text) => Ok(text),
+        Err(FormFault::EqualHashes) => Err(refused(Cause::EqualHashes)),
+        Err(FormFault::NoMemory) => Err(Status::NoMemory),
+    }
 }
 
 fn execute<S: Shelf, K: Sink>(
