@@ -6,10 +6,13 @@ use std::alloc::Global;
 use std::test::Fail;
 
 // Why the bytes are not read, if they are not.
-fn fault_of(alloc: Global, bytes: &[u8]) -> Option<ReadFault> {
+fn fault_of(alloc: Global, bytes: &[u8]) -> Result<Option<ReadFault>, Fail> {
+    if bytes.len() > 1000 {
+        return Err(Fail::from("a text is too long for this table"));
+    }
     match read_nquads(alloc, bytes) {
-        Ok(_) => None,
-        Err(fault) => Some(fault),
+        Ok(_) => Ok(None),
+        Err(fault) => Ok(Some(fault)),
     }
 }
 
@@ -26,7 +29,7 @@ fn not_utf8(line: u64) -> Option<ReadFault> {
 }
 
 #[test]
-fn lines_in_and_outside_the_grammar(rt: HostRuntime) {
+fn lines_in_and_outside_the_grammar(rt: HostRuntime) -> Result<(), Fail> {
     let table = [
         ("", None),
         ("# head\r\n<e:s>\t<e:p><e:o>.# c", None),
@@ -44,12 +47,13 @@ fn lines_in_and_outside_the_grammar(rt: HostRuntime) {
         ("# \0\n<e:s> <e:p> <e:o> .", None),
     ];
     for (text, wanted) in table {
-        assert_eq!(rt; fault_of(rt.alloc(), text.as_bytes()), wanted, "{text:?}");
+        assert_eq!(rt; fault_of(rt.alloc(), text.as_bytes())?, wanted, "{text:?}");
     }
+    Ok(())
 }
 
 #[test]
-fn escapes_name_characters(rt: HostRuntime) {
+fn escapes_name_characters(rt: HostRuntime) -> Result<(), Fail> {
     let table = [
         ("<e:\\u0020> <e:p> <e:o> .", bad(1)),
         ("<e:s> <e:p> <x:\\u00E9> .", None),
@@ -64,12 +68,13 @@ fn escapes_name_characters(rt: HostRuntime) {
         ("<e:s> <e:p> \"a\nb\" .", bad(1)),
     ];
     for (text, wanted) in table {
-        assert_eq!(rt; fault_of(rt.alloc(), text.as_bytes()), wanted, "{text:?}");
+        assert_eq!(rt; fault_of(rt.alloc(), text.as_bytes())?, wanted, "{text:?}");
     }
+    Ok(())
 }
 
 #[test]
-fn labels_tags_and_suffixes(rt: HostRuntime) {
+fn labels_tags_and_suffixes(rt: HostRuntime) -> Result<(), Fail> {
     let table = [
         ("_:a:b <e:p> _:a.", None),
         ("_:a:b <e:p> _:a. .", bad(1)),
@@ -87,12 +92,13 @@ fn labels_tags_and_suffixes(rt: HostRuntime) {
         ("<e:s> <e:p> \"x\"^^<t> .", relative(1)),
     ];
     for (text, wanted) in table {
-        assert_eq!(rt; fault_of(rt.alloc(), text.as_bytes()), wanted, "{text:?}");
+        assert_eq!(rt; fault_of(rt.alloc(), text.as_bytes())?, wanted, "{text:?}");
     }
+    Ok(())
 }
 
 #[test]
-fn the_first_faulty_line_is_named(rt: HostRuntime) {
+fn the_first_faulty_line_is_named(rt: HostRuntime) -> Result<(), Fail> {
     let some = "<e:s> <e:p> <e:o> .";
     let table = [
         (
@@ -111,14 +117,15 @@ fn the_first_faulty_line_is_named(rt: HostRuntime) {
         ("<e:s> <e:p> <e:o> .\r", None),
     ];
     for (text, wanted) in table {
-        assert_eq!(rt; fault_of(rt.alloc(), text.as_bytes()), wanted, "{text:?}");
+        assert_eq!(rt; fault_of(rt.alloc(), text.as_bytes())?, wanted, "{text:?}");
     }
-    assert_eq!(rt; fault_of(rt.alloc(), some.as_bytes()), None);
+    assert_eq!(rt; fault_of(rt.alloc(), some.as_bytes())?, None);
     assert_eq!(rt;
-        fault_of(rt.alloc(), b"#\n# \xff\nx".as_slice()),
+        fault_of(rt.alloc(), b"#\n# \xff\nx".as_slice())?,
         not_utf8(2)
     );
-    assert_eq!(rt; fault_of(rt.alloc(), b"x\n# \xff\n".as_slice()), bad(1));
+    assert_eq!(rt; fault_of(rt.alloc(), b"x\n# \xff\n".as_slice())?, bad(1));
+    Ok(())
 }
 
 // The lexical form of the object of the first quad, and whether it has a language tag.

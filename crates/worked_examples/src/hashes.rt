@@ -1,6 +1,8 @@
 //! First-degree hashes (RDF Dataset Canonicalization, section 4.6): the standard's example of two
 //! nodes with different hashes.
 
+ghost use Rattle.std.specs.Prelude.{◌≤◌, length};
+
 use canon_model::HexHash;
 use dataset_index::Dataset;
 use first_degree::FirstTable;
@@ -15,7 +17,9 @@ _:e1 <http://example.com/#t> <http://example.com/#u> .
 ";
 
 // The table of a document, if it is read.
-fn table_of(alloc: Global, text: &str) -> Result<Option<FirstTable>, Fail> {
+fn table_of(alloc: Global, text: &str) -> Result<Option<FirstTable>, Fail>
+    requires { length text.now ≤ 1000 }
+{
     let Ok(parsed) = read_nquads(alloc, text.as_bytes()) else {
         return Ok(None);
     };
