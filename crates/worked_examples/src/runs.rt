@@ -226,3 +226,19 @@ fn a_note_that_fails_changes_no_status(rt: HostRuntime) -> Result<(), Fail> {
     assert_eq!(rt; ended.notes.bytes(), b"rdfc: ".as_slice());
     Ok(())
 }
+
+// Where an allocation is refused, the run ends with `NoMemory` and an untouched output.
+#[test]
+fn want_of_memory_writes_nothing(rt: HostRuntime) -> Result<(), Fail> {
+    let ended = outcome_of(rt.alloc(), &canon("_:x <e:p> \"v\" _:x ."))?;
+    if ended.status == Status::NoMemory {
+        assert_eq!(rt; ended.out.bytes(), b"".as_slice());
+    } else {
+        assert_eq!(rt; ended.status, Status::Done);
+        assert_eq!(rt;
+            ended.out.bytes(),
+            b"_:c14n0 <e:p> \"v\" _:c14n0 .\n".as_slice()
+        );
+    }
+    Ok(())
+}
