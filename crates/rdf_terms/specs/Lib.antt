@@ -1,6 +1,8 @@
 pub mod Lists
 pub mod Numeral
 pub mod Terms
+pub mod References
+pub mod ReferenceHash
 pub mod Dataset
 pub mod Isomorphism
 pub mod CanonicalForm

@@ -3,9 +3,10 @@ ghost use Rattle.rdf_terms.specs.Lists.{In, AreDistinct};
 ghost use Rattle.rdf_terms.specs.Terms.{IsValidStatement};
 ghost use Rattle.rdf_terms.specs.Dataset.{IsUsed};
 ghost use Rattle.rdf_terms.specs.Document.{statements, Extends, Adds, Interns, Numbers, Finishes};
+ghost use Rattle.rdf_terms.specs.References.{statement_of, graph_name_of, label_of};
 
 use crate::finish::{are_all_used, new_numbers, used_labels, used_nodes};
-use crate::{Label, NoMemory, Parsed, Quad, Term, TermTable};
+use crate::{Label, LabelRef, NoMemory, Parsed, Quad, StatementRef, Term, TermRef, TermTable};
 use indexmap::IndexSet;
 use std::alloc::Global;
 use std::marker::Model;
@@ -31,25 +32,32 @@ impl Model for Draft {
 
 // The quad of these terms, which get numbers where they have none.
 fn number_terms(
+    alloc: Global,
     terms: &mut TermTable,
-    s: Term,
-    p: Term,
-    o: Term,
-    g: Option<Term>,
+    quad: StatementRef<'_>,
 ) -> Result<Quad, NoMemory>
     requires { length terms.old + 4 ≤ 4294967295 }
-    ensures numbers { IfOk result (Numbers terms.old terms.new (record { subject = s; predicate = p; object = o; graph_name = g })) }
+    ensures numbers { IfOk result (Numbers terms.old terms.new (statement_of quad.entry)) }
     ensures extends { Extends terms.old terms.new }
     ensures distinct { AreDistinct terms.new }
 {
-    let s = terms.intern(s)?;
-    let p = terms.intern(p)?;
-    let o = terms.intern(o)?;
-    let g = match g {
-        Some(graph_name) => Some(terms.intern(graph_name)?),
+    let s = terms.intern_ref(alloc, quad.subject)?;
+    let p = terms.intern_ref(alloc, quad.predicate)?;
+    let o = terms.intern_ref(alloc, quad.object)?;
+    let g = match quad.graph_name {
+        Some(graph_name) => Some(terms.intern_ref(alloc, graph_name)?),
         None => None,
     };
     Ok(Quad { s, p, o, g })
+}
+
+fn graph_name_ref(graph_name: &Option<Term>) -> Option<TermRef<'_>>
+    ensures { graph_name_of result ≡ graph_name.now }
+{
+    match graph_name {
+        Some(term) => Some(term.as_ref()),
+        None => None,
+    }
 }
 
 impl Draft {
@@ -65,6 +73,18 @@ impl Draft {
         }
     }
 
+    /// No node and no quad, with room for so many quads and terms. More may come.
+    pub fn with_capacity(alloc: Global, quads: usize, terms: usize) -> Result<Self, NoMemory>
+        ensures { IfOk result (λ draft. draft ≡ record { terms = []; quads = []; labels = [] }) }
+    {
+        Ok(Draft {
+            alloc,
+            terms: TermTable::with_capacity(alloc, terms)?,
+            quads: IndexSet::with_capacity(alloc, quads)?,
+            labels: IndexSet::new(alloc),
+        })
+    }
+
     /// The number of the node with this label: the old one where it is there, else the next.
     pub fn node(&mut self, label: Label) -> Result<u32, NoMemory>
         requires { length self.old.labels < 4294967295 }
@@ -76,6 +96,20 @@ impl Draft {
         Ok(index as u32)
     }
 
+    /// The same as `node`, of a label that is copied only where it is new.
+    pub fn node_ref(&mut self, label: LabelRef<'_>) -> Result<u32, NoMemory>
+        requires { length self.old.labels < 4294967295 }
+        ensures ok { IfOk result (Interns self.old.labels self.new.labels (label_of label.entry)) }
+        ensures statements { statements self.new ≡ statements self.old }
+        ensures err { OnErr result (self.new ≡ self.old) }
+    {
+        if let Some(index) = self.labels.get_index_of(label) {
+            return Ok(index as u32);
+        }
+        let label = label.to_label(self.alloc)?;
+        self.node(label)
+    }
+
     /// Adds a quad by its terms, and says whether it is new.
     pub fn add(&mut self, s: Term, p: Term, o: Term, g: Option<Term>) -> Result<bool, NoMemory>
         requires valid { IsValidStatement (length self.old.labels) (record { subject = s; predicate = p; object = o; graph_name = g }) }
@@ -85,8 +119,25 @@ impl Draft {
         ensures labels { self.new.labels ≡ self.old.labels }
         ensures err { OnErr result (self.new ≡ self.old) }
     {
+        self.add_ref(StatementRef {
+            subject: s.as_ref(),
+            predicate: p.as_ref(),
+            object: o.as_ref(),
+            graph_name: graph_name_ref(&g),
+        })
+    }
+
+    /// The same as `add`, of terms that are copied only where they are new.
+    pub fn add_ref(&mut self, quad: StatementRef<'_>) -> Result<bool, NoMemory>
+        requires valid { IsValidStatement (length self.old.labels) (statement_of quad) }
+        requires room { length self.old.quads < 1000000000 }
+        ensures adds { IfOk result (λ _. Adds (statements self.old) (statement_of quad.entry) (statements self.new)) }
+        ensures new { IfOk result (λ new. IsTrue new ↔ (¬ (In (statement_of quad.entry) (statements self.old)))) }
+        ensures labels { self.new.labels ≡ self.old.labels }
+        ensures err { OnErr result (self.new ≡ self.old) }
+    {
         let before = self.terms.len();
-        let Ok(quad) = number_terms(&mut self.terms, s, p, o, g) else {
+        let Ok(quad) = number_terms(self.alloc, &mut self.terms, quad) else {
             self.terms.truncate(before);
             return Err(NoMemory);
         };

@@ -7,6 +7,7 @@ pub use memory::NoMemory;
 pub use parsed::Parsed;
 pub use table::TermTable;
 pub use term::{Label, Literal, LiteralKind, Prefix, Quad, Term};
+pub use term_ref::{LabelRef, LiteralKindRef, LiteralRef, StatementRef, TermRef};
 pub use term_text::TermText;
 
 mod bytes;
@@ -16,4 +17,5 @@ mod memory;
 mod parsed;
 mod table;
 mod term;
+mod term_ref;
 mod term_text;

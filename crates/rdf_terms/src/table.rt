@@ -3,9 +3,10 @@ ghost use Rattle.std.specs.Option.{option_copied};
 ghost use Rattle.rdf_terms.specs.Lists.{In, AreDistinct};
 ghost use Rattle.rdf_terms.specs.Isomorphism.{relabel_term};
 ghost use Rattle.rdf_terms.specs.Document.{Interns, number_in};
+ghost use Rattle.rdf_terms.specs.References.{term_of};
 ghost use Rattle.rdf_terms.specs.declared.term.Term.TheVariants.{Blank};
 
-use crate::{NoMemory, Term};
+use crate::{NoMemory, Term, TermRef};
 use indexmap::IndexSet;
 use std::alloc::Global;
 use std::marker::Model;
@@ -47,6 +48,15 @@ impl TermTable {
         }
     }
 
+    /// An empty table with room for so many terms.
+    pub fn with_capacity(alloc: Global, terms: usize) -> Result<Self, NoMemory>
+        ensures { IfOk result (λ table. table ≡ []) }
+    {
+        Ok(TermTable {
+            terms: IndexSet::with_capacity(alloc, terms)?,
+        })
+    }
+
     /// How many terms there are, which is the number that the next new one gets.
     pub fn len(&self) -> u32
         ensures len { result ≡ length self.now }
@@ -70,6 +80,19 @@ impl TermTable {
     {
         let (index, _) = self.terms.insert_full(term)?;
         Ok(index as u32)
+    }
+
+    /// The same as `intern`, of a term that is copied only where it is new.
+    pub fn intern_ref(&mut self, alloc: Global, term: TermRef<'_>) -> Result<u32, NoMemory>
+        requires { length self.old < 4294967295 }
+        ensures ok { IfOk result (Interns self.old self.new (term_of term.entry)) }
+        ensures err { OnErr result (self.new ≡ self.old) }
+        ensures distinct { AreDistinct self.new }
+    {
+        if let Some(index) = self.terms.get_index_of(term) {
+            return Ok(index as u32);
+        }
+        self.intern(term.to_term(alloc)?)
     }
 
     pub fn get(&self, number: u32) -> Option<&Term>

@@ -2,7 +2,7 @@ use Rattle.rdf_terms.specs.contracts.term.QuadPartialEq.TheImpl.{eq-value}
 use Rattle.rdf_terms.proofs.Membership.{inserted, present, absent}
 use Rattle.rdf_terms.proofs.SameTerm.{quads_tell}
 use Rattle.rdf_terms.proofs.Adding.{Added-adds, told_new}
-use Rattle.rdf_terms.proofs.draft.Draft.add.Goals as goal
+use Rattle.rdf_terms.proofs.draft.Draft.add_ref.Goals as goal
 
 pub invariant_of-self-in-Ok-insert : goal.invariant_of-self-in-Ok-insert
 invariant_of-self-in-Ok-insert c =
