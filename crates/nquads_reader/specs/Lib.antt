@@ -1,3 +1,4 @@
+pub mod Suffixes
 pub mod Lines
 pub mod Grammar
 pub mod Document

@@ -10,6 +10,8 @@ mod lines;
 mod number;
 mod quad;
 mod read;
+mod stated_literal;
+mod stated_text;
 mod terms;
 mod white;
 

@@ -2,14 +2,14 @@ ghost use Rattle.std.specs.Prelude.{◌≡◌, ◌↔◌, IfOk, IfErr, IfSome, I
 ghost use Rattle.rdf_terms.specs.Terms.{HasScheme};
 ghost use Rattle.nquads_reader.specs.declared.line.LineFault.TheVariants.{NoMemory as Memory};
 ghost use Rattle.nquads_reader.specs.Grammar.{BeginsWithGraphName, BeginsWithTerms, EndsStatement, States};
-ghost use Rattle.nquads_reader.specs.Document.{IsAbsoluteResource, IsAbsoluteKind, IsAbsoluteObject, IsAbsolute, IsFaultless};
+ghost use Rattle.nquads_reader.specs.Document.{IsAbsoluteResource, IsAbsoluteObject, IsAbsolute, IsFaultless};
 ghost use Rattle.nquads_reader.specs.Reading.{Reads, IsFaultOf};
 
 use crate::quad::{Object, Resource, StatedQuad};
 use crate::terms::{iri, object, resource};
 use crate::white::{after_mark, after_white, is_optional_comment};
 use iri_resolve::has_scheme;
-use rdf_terms::{LiteralKind, NoMemory};
+use rdf_terms::NoMemory;
 use simdutf8::compat::from_utf8;
 use std::alloc::Global;
 
@@ -31,7 +31,7 @@ impl From<NoMemory> for LineFault {
 }
 
 // The graph name, where no dot stands in its place, and what follows it and white space.
-fn graph_name(alloc: Global, text: &str) -> Result<Option<(Option<Resource>, &str)>, NoMemory>
+fn graph_name(alloc: Global, text: &str) -> Result<Option<(Option<Resource<'_>>, &str)>, NoMemory>
     ensures { IfOk result (Reads (λ x. (x.0, x.1.now)) (BeginsWithGraphName text.now)) }
 {
     if after_mark(text, '.').is_some() {
@@ -44,7 +44,7 @@ fn graph_name(alloc: Global, text: &str) -> Result<Option<(Option<Resource>, &st
 }
 
 // The terms of a statement, and what follows them and white space.
-fn terms(alloc: Global, text: &str) -> Result<Option<(StatedQuad, &str)>, NoMemory>
+fn terms(alloc: Global, text: &str) -> Result<Option<(StatedQuad<'_>, &str)>, NoMemory>
     ensures { IfOk result (Reads (λ x. (x.0, x.1.now)) (BeginsWithTerms text.now)) }
 {
     let Some((subject, rest)) = resource(alloc, text)? else {
@@ -79,7 +79,7 @@ fn ends_statement(text: &str) -> bool
 }
 
 // What the line states: no quad, or one.
-fn stated(alloc: Global, line: &str) -> Result<Option<StatedQuad>, LineFault>
+fn stated(alloc: Global, line: &str) -> Result<Option<StatedQuad<'_>>, LineFault>
     ensures ok { IfOk result (States line.now) }
     ensures err { IfErr result (IsFaultOf line.now) }
 {
@@ -97,7 +97,7 @@ fn stated(alloc: Global, line: &str) -> Result<Option<StatedQuad>, LineFault>
     }
 }
 
-fn is_absolute_resource(resource: &Resource) -> bool
+fn is_absolute_resource(resource: &Resource<'_>) -> bool
     ensures { IsTrue result ↔ IsAbsoluteResource resource.now }
 {
     match resource {
@@ -106,26 +106,17 @@ fn is_absolute_resource(resource: &Resource) -> bool
     }
 }
 
-fn is_absolute_kind(kind: &LiteralKind) -> bool
-    ensures { IsTrue result ↔ IsAbsoluteKind kind.now }
-{
-    match kind {
-        LiteralKind::Typed(iri) => has_scheme(iri.as_str()),
-        LiteralKind::Tagged(_) => true,
-    }
-}
-
-fn is_absolute_object(object: &Object) -> bool
+fn is_absolute_object(object: &Object<'_>) -> bool
     ensures { IsTrue result ↔ IsAbsoluteObject object.now }
 {
     match object {
         Object::Resource(resource) => is_absolute_resource(resource),
-        Object::Literal(literal) => is_absolute_kind(&literal.kind),
+        Object::Literal(literal) => literal.is_absolute(),
     }
 }
 
 // Whether each IRI of the quad has a scheme.
-fn is_absolute(quad: &StatedQuad) -> bool
+fn is_absolute(quad: &StatedQuad<'_>) -> bool
     ensures { IsTrue result ↔ IsAbsolute quad.now }
 {
     is_absolute_resource(&quad.subject)
@@ -138,7 +129,7 @@ fn is_absolute(quad: &StatedQuad) -> bool
 }
 
 // What the line states: no quad, or one.
-pub fn read_line(alloc: Global, line: &[u8]) -> Result<Option<StatedQuad>, LineFault>
+pub fn read_line(alloc: Global, line: &[u8]) -> Result<Option<StatedQuad<'_>>, LineFault>
     ensures ok { IfOk result (IsFaultless line.now) }
     ensures err { IfErr result (IsFaultOf line.now) }
 {

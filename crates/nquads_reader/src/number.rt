@@ -1,44 +1,48 @@
 ghost use Rattle.std.specs.Prelude.{◌≡◌, ◌<◌, ◌≤◌, ◌+◌, length, IfOk, OnOk};
 ghost use Rattle.rdf_terms.specs.Document.{statements};
+ghost use Rattle.rdf_terms.specs.References.{term_of, graph_name_of};
 ghost use Rattle.nquads_reader.specs.Document.{labels_of_resource, labels_of_object, labels_of_graph_name, IsResourceTerm, IsObjectTerm, IsGraphNameTerm, AddsAll};
 ghost use Rattle.nquads_reader.specs.Reading.{IsValidQuad, TakesQuad};
 
 use crate::quad::{Object, Resource, StatedQuad};
-use rdf_terms::{Draft, Label, NoMemory, Term};
+use rdf_terms::{Draft, LabelRef, NoMemory, StatementRef, TermRef};
 
-fn resource_term(draft: &mut Draft, resource: Resource) -> Result<Term, NoMemory>
+fn resource_term<'a>(draft: &mut Draft, resource: &'a Resource<'_>) -> Result<TermRef<'a>, NoMemory>
     requires { length draft.old.labels < 4294967295 }
-    ensures term { IfOk result (IsResourceTerm draft.new.labels resource) }
-    ensures labels { OnOk result (AddsAll draft.old.labels (labels_of_resource resource) draft.new.labels) }
+    ensures term { IfOk result (λ t. IsResourceTerm draft.new.labels resource.now (term_of t)) }
+    ensures labels { OnOk result (AddsAll draft.old.labels (labels_of_resource resource.now) draft.new.labels) }
     ensures grows { OnOk result (length draft.new.labels ≤ length draft.old.labels + 1) }
     ensures statements { statements draft.new ≡ statements draft.old }
 {
     match resource {
-        Resource::Iri(iri) => Ok(Term::Iri(iri)),
-        Resource::Label(label) => Ok(Term::Blank(draft.node(Label::Named(label))?)),
+        Resource::Iri(iri) => Ok(TermRef::Iri(iri.as_str())),
+        Resource::Label(label) => {
+            let node = draft.node_ref(LabelRef::Named(label.as_str()))?;
+            Ok(TermRef::Blank(node))
+        }
     }
 }
 
-fn object_term(draft: &mut Draft, object: Object) -> Result<Term, NoMemory>
+fn object_term<'a>(draft: &mut Draft, object: &'a Object<'_>) -> Result<TermRef<'a>, NoMemory>
     requires { length draft.old.labels < 4294967295 }
-    ensures term { IfOk result (IsObjectTerm draft.new.labels object) }
-    ensures labels { OnOk result (AddsAll draft.old.labels (labels_of_object object) draft.new.labels) }
+    ensures term { IfOk result (λ t. IsObjectTerm draft.new.labels object.now (term_of t)) }
+    ensures labels { OnOk result (AddsAll draft.old.labels (labels_of_object object.now) draft.new.labels) }
     ensures grows { OnOk result (length draft.new.labels ≤ length draft.old.labels + 1) }
     ensures statements { statements draft.new ≡ statements draft.old }
 {
     match object {
         Object::Resource(resource) => resource_term(draft, resource),
-        Object::Literal(literal) => Ok(Term::Literal(literal)),
+        Object::Literal(literal) => Ok(TermRef::Literal(literal.as_ref())),
     }
 }
 
-fn graph_name_term(
+fn graph_name_term<'a>(
     draft: &mut Draft,
-    graph_name: Option<Resource>,
-) -> Result<Option<Term>, NoMemory>
+    graph_name: &'a Option<Resource<'_>>,
+) -> Result<Option<TermRef<'a>>, NoMemory>
     requires { length draft.old.labels < 4294967295 }
-    ensures term { IfOk result (IsGraphNameTerm draft.new.labels graph_name) }
-    ensures labels { OnOk result (AddsAll draft.old.labels (labels_of_graph_name graph_name) draft.new.labels) }
+    ensures term { IfOk result (λ g. IsGraphNameTerm draft.new.labels graph_name.now (graph_name_of g)) }
+    ensures labels { OnOk result (AddsAll draft.old.labels (labels_of_graph_name graph_name.now) draft.new.labels) }
     ensures grows { OnOk result (length draft.new.labels ≤ length draft.old.labels + 1) }
     ensures statements { statements draft.new ≡ statements draft.old }
 {
@@ -49,21 +53,20 @@ fn graph_name_term(
 }
 
 // Adds the quad, with a number for each label that is new.
-pub fn take_quad(draft: &mut Draft, quad: StatedQuad) -> Result<(), NoMemory>
-    requires valid { IsValidQuad quad }
+pub fn take_quad(draft: &mut Draft, quad: &StatedQuad<'_>) -> Result<(), NoMemory>
+    requires valid { IsValidQuad quad.now }
     requires room { length (statements draft.old) < 1000000000 }
     requires labels { length draft.old.labels + 3 ≤ 4294967295 }
-    ensures { OnOk result (TakesQuad quad draft.old draft.new) }
+    ensures { OnOk result (TakesQuad quad.now draft.old draft.new) }
 {
-    let StatedQuad {
+    let subject = resource_term(draft, &quad.subject)?;
+    let object = object_term(draft, &quad.object)?;
+    let graph_name = graph_name_term(draft, &quad.graph_name)?;
+    draft.add_ref(StatementRef {
         subject,
-        predicate,
+        predicate: TermRef::Iri(quad.predicate.as_str()),
         object,
         graph_name,
-    } = quad;
-    let subject = resource_term(draft, subject)?;
-    let object = object_term(draft, object)?;
-    let graph_name = graph_name_term(draft, graph_name)?;
-    draft.add(subject, Term::Iri(predicate), object, graph_name)?;
+    })?;
     Ok(())
 }

@@ -1,23 +1,24 @@
-use rdf_terms::{Literal, TermText};
+use crate::stated_literal::StatedLiteral;
+use crate::stated_text::StatedText;
 
 // What a line states: an IRI, or a blank node by its label.
 #[derive(Drop)]
-pub enum Resource {
-    Iri(TermText),
-    Label(TermText),
+pub enum Resource<'a> {
+    Iri(StatedText<'a>),
+    Label(StatedText<'a>),
 }
 
 #[derive(Drop)]
-pub enum Object {
-    Resource(Resource),
-    Literal(Literal),
+pub enum Object<'a> {
+    Resource(Resource<'a>),
+    Literal(StatedLiteral<'a>),
 }
 
 // A quad as its line states it.
 #[derive(Drop)]
-pub struct StatedQuad {
-    pub subject: Resource,
-    pub predicate: TermText,
-    pub object: Object,
-    pub graph_name: Option<Resource>,
+pub struct StatedQuad<'a> {
+    pub subject: Resource<'a>,
+    pub predicate: StatedText<'a>,
+    pub object: Object<'a>,
+    pub graph_name: Option<Resource<'a>>,
 }

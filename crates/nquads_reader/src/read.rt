@@ -10,6 +10,9 @@ use crate::{MAX_QUADS, ReadFault};
 use rdf_terms::{Draft, Parsed};
 use std::alloc::Global;
 
+// A file gets room for one quad and one term for each so many bytes at once, and more as it needs it.
+const EXPECTED_LINE: usize = 64;
+
 // Adds what the line states.
 fn take_line(alloc: Global, draft: &mut Draft, line: &[u8]) -> Result<(), LineFault>
     requires room { length (statements draft.old) < 1000000000 }
@@ -20,7 +23,7 @@ fn take_line(alloc: Global, draft: &mut Draft, line: &[u8]) -> Result<(), LineFa
     match read_line(alloc, line)? {
         None => Ok(()),
         Some(quad) => {
-            take_quad(draft, quad)?;
+            take_quad(draft, &quad)?;
             Ok(())
         }
     }
@@ -32,7 +35,8 @@ fn read_lines(alloc: Global, bytes: &[u8]) -> Result<Draft, ReadFault>
     ensures ok { IfOk result (λ draft. IsNQuads bytes.now draft.labels (statements draft)) }
     ensures err { IfErr result (IsCauseOf bytes.now) }
 {
-    let mut draft = Draft::new(alloc);
+    let expected = bytes.len() / EXPECTED_LINE;
+    let mut draft = Draft::with_capacity(alloc, expected, expected)?;
     let mut rest = bytes;
     let mut line = 0u64;
     while !rest.is_empty() {

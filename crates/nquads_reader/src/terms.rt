@@ -4,10 +4,13 @@ ghost use Rattle.rdf_terms.specs.CanonicalForm.{xsd_string};
 ghost use Rattle.terminals.specs.Spellings.{TextSpells};
 ghost use Rattle.nquads_reader.specs.Grammar.{BeginsWithIri, BeginsWithString, BeginsWithResource, BeginsWithDatatype, BeginsWithTag, BeginsWithNoSuffix, BeginsWithSuffix, BeginsWithLiteral, BeginsWithObject};
 ghost use Rattle.nquads_reader.specs.Reading.{Reads};
+ghost use Rattle.nquads_reader.specs.Suffixes.{suffix_kind};
 
 use crate::quad::{Object, Resource};
+use crate::stated_literal::{StatedLiteral, Suffix};
+use crate::stated_text::StatedText;
 use crate::white::{after_mark, after_white};
-use rdf_terms::{Literal, LiteralKind, NoMemory, TermText};
+use rdf_terms::NoMemory;
 use std::alloc::Global;
 use terminals::{Grammar, Quote, Spelling, blank_node_label, iriref, langtag, short_string};
 
@@ -15,20 +18,20 @@ use terminals::{Grammar, Quote, Spelling, blank_node_label, iriref, langtag, sho
 const XSD_STRING: &str = "http://www.w3.org/2001/XMLSchema#string";
 
 // The characters that are spelled.
-fn spelled(alloc: Global, spelling: Spelling) -> Result<TermText, NoMemory>
+fn spelled<'a>(alloc: Global, spelling: Spelling<'a>) -> Result<StatedText<'a>, NoMemory>
     ensures { (value : Text) → TextSpells spelling.entry.body spelling.entry.text.now value → (spelling.entry.has_escapes ≡ false → spelling.entry.text.now ≡ value) → IfOk result (λ text. text ≡ value) }
 {
     if !spelling.has_escapes {
-        return TermText::copy(alloc, spelling.text);
+        return Ok(StatedText::of_line(spelling.text));
     }
     let mut value = String::new(alloc);
     spelling.unescape(&mut value)?;
-    TermText::copy(alloc, value.as_str())
+    Ok(StatedText::with_escapes_undone(value))
 }
 
 // Each function below answers what stands at the front of the text, and what follows it.
 
-pub fn iri(alloc: Global, text: &str) -> Result<Option<(TermText, &str)>, NoMemory>
+pub fn iri(alloc: Global, text: &str) -> Result<Option<(StatedText<'_>, &str)>, NoMemory>
     ensures { IfOk result (Reads (λ x. (x.0, x.1.now)) (BeginsWithIri text.now)) }
 {
     let Some((spelling, rest)) = iriref(text) else {
@@ -37,7 +40,7 @@ pub fn iri(alloc: Global, text: &str) -> Result<Option<(TermText, &str)>, NoMemo
     Ok(Some((spelled(alloc, spelling)?, rest)))
 }
 
-fn string(alloc: Global, text: &str) -> Result<Option<(TermText, &str)>, NoMemory>
+fn string(alloc: Global, text: &str) -> Result<Option<(StatedText<'_>, &str)>, NoMemory>
     ensures { IfOk result (Reads (λ x. (x.0, x.1.now)) (BeginsWithString text.now)) }
 {
     let Some((spelling, rest)) = short_string(text, Quote::Double) else {
@@ -46,7 +49,7 @@ fn string(alloc: Global, text: &str) -> Result<Option<(TermText, &str)>, NoMemor
     Ok(Some((spelled(alloc, spelling)?, rest)))
 }
 
-pub fn resource(alloc: Global, text: &str) -> Result<Option<(Resource, &str)>, NoMemory>
+pub fn resource(alloc: Global, text: &str) -> Result<Option<(Resource<'_>, &str)>, NoMemory>
     ensures { IfOk result (Reads (λ x. (x.0, x.1.now)) (BeginsWithResource text.now)) }
 {
     if let Some((iri, rest)) = iri(alloc, text)? {
@@ -55,10 +58,10 @@ pub fn resource(alloc: Global, text: &str) -> Result<Option<(Resource, &str)>, N
     let Some((label, rest)) = blank_node_label(text, Grammar::NQuads) else {
         return Ok(None);
     };
-    Ok(Some((Resource::Label(TermText::copy(alloc, label)?), rest)))
+    Ok(Some((Resource::Label(StatedText::of_line(label)), rest)))
 }
 
-fn datatype(alloc: Global, text: &str) -> Result<Option<(TermText, &str)>, NoMemory>
+fn datatype(alloc: Global, text: &str) -> Result<Option<(StatedText<'_>, &str)>, NoMemory>
     ensures { IfOk result (Reads (λ x. (x.0, x.1.now)) (BeginsWithDatatype text.now)) }
 {
     let Some(rest) = after_mark(text, '^') else {
@@ -70,13 +73,13 @@ fn datatype(alloc: Global, text: &str) -> Result<Option<(TermText, &str)>, NoMem
     iri(alloc, after_white(rest))
 }
 
-fn tag(alloc: Global, text: &str) -> Result<Option<(TermText, &str)>, NoMemory>
-    ensures { IfOk result (Reads (λ x. (x.0, x.1.now)) (BeginsWithTag text.now)) }
+fn tag(text: &str) -> Option<(StatedText<'_>, &str)>
+    ensures { Reads (λ x. (x.0, x.1.now)) (BeginsWithTag text.now) result }
 {
-    let Some((tag, rest)) = langtag(text) else {
-        return Ok(None);
-    };
-    Ok(Some((TermText::copy(alloc, tag)?, rest)))
+    match langtag(text) {
+        Some((tag, rest)) => Some((StatedText::of_line(tag), rest)),
+        None => None,
+    }
 }
 
 // Whether no suffix of a string begins there.
@@ -89,35 +92,35 @@ fn has_no_suffix(text: &str) -> bool
     }
 }
 
-fn suffix(alloc: Global, text: &str) -> Result<Option<(LiteralKind, &str)>, NoMemory>
-    ensures { IfOk result (Reads (λ x. (x.0, x.1.now)) (BeginsWithSuffix text.now)) }
+fn suffix(alloc: Global, text: &str) -> Result<Option<(Suffix<'_>, &str)>, NoMemory>
+    ensures { IfOk result (Reads (λ x. (suffix_kind x.0, x.1.now)) (BeginsWithSuffix text.now)) }
 {
     if has_no_suffix(text) {
-        let datatype = TermText::copy(alloc, XSD_STRING)?;
-        return Ok(Some((LiteralKind::Typed(datatype), text)));
+        let datatype = StatedText::of_line(XSD_STRING);
+        return Ok(Some((Suffix::Datatype(datatype), text)));
     }
-    if let Some((tag, rest)) = tag(alloc, text)? {
-        return Ok(Some((LiteralKind::Tagged(tag), rest)));
+    if let Some((tag, rest)) = tag(text) {
+        return Ok(Some((Suffix::Tag(tag), rest)));
     }
     match datatype(alloc, text)? {
-        Some((datatype, rest)) => Ok(Some((LiteralKind::Typed(datatype), rest))),
+        Some((datatype, rest)) => Ok(Some((Suffix::Datatype(datatype), rest))),
         None => Ok(None),
     }
 }
 
-fn literal(alloc: Global, text: &str) -> Result<Option<(Literal, &str)>, NoMemory>
+fn literal(alloc: Global, text: &str) -> Result<Option<(StatedLiteral<'_>, &str)>, NoMemory>
     ensures { IfOk result (Reads (λ x. (x.0, x.1.now)) (BeginsWithLiteral text.now)) }
 {
     let Some((lexical, rest)) = string(alloc, text)? else {
         return Ok(None);
     };
-    let Some((kind, rest)) = suffix(alloc, after_white(rest))? else {
+    let Some((suffix, rest)) = suffix(alloc, after_white(rest))? else {
         return Ok(None);
     };
-    Ok(Some((Literal { lexical, kind }, rest)))
+    Ok(Some((StatedLiteral::new(lexical, suffix), rest)))
 }
 
-pub fn object(alloc: Global, text: &str) -> Result<Option<(Object, &str)>, NoMemory>
+pub fn object(alloc: Global, text: &str) -> Result<Option<(Object<'_>, &str)>, NoMemory>
     ensures { IfOk result (Reads (λ x. (x.0, x.1.now)) (BeginsWithObject text.now)) }
 {
     if let Some((resource, rest)) = resource(alloc, text)? {
