@@ -83,7 +83,7 @@ rest_utf8 terminal text value rest x utf8 =
 
 -- ---- values
 
-ascii_scalar : (c : ℕ) → c < 128 → IsScalar c
+pub ascii_scalar : (c : ℕ) → c < 128 → IsScalar c
 ascii_scalar c h = grind (arith, nat_tests)
 
 meaning_is_ascii : (letter c : ℕ) → In (letter, c) echar_meanings → c < 128

@@ -1,5 +1,5 @@
 -- How far a label goes.
-use Rattle.std.proofs.Common.{◌≡◌, ◌≢◌, ℕ, zero, suc, ◌+◌, ◌-◌, ◌<◌, ◌≤◌, Bool, true, false, ◌||◌, ◌==◌, List, [], ◌∷◌, ◌++◌, All, length, get_or, refl, sym, ap, subst, ◌∙◌, arith, ◌⊎◌, inl, inr, true≢false}
+use Rattle.std.proofs.Common.{◌≡◌, ◌≢◌, ℕ, zero, suc, ◌+◌, ◌-◌, ◌<◌, ◌≤◌, Bool, true, false, not, ◌||◌, ◌==◌, List, [], ◌∷◌, ◌++◌, All, length, get_or, refl, sym, ap, subst, ◌∙◌, arith, ◌⊎◌, inl, inr, true≢false}
 use Rattle.std.specs.Prelude.{encode_utf8, encode_utf8_all}
 use Rattle.std.proofs.lemmas.Bool.{or_left, or_right, or_from, eq-eqb, ne_eqb, cases_lt}
 use Rattle.std.proofs.lemmas.List.{append_assoc, length-append, get_or_at, get_or-append_right, get_or_append_left}
@@ -7,6 +7,7 @@ use Rattle.std.proofs.lemmas.List.Elements.{All-push}
 use Rattle.std.proofs.lemmas.Str.{cons_from_encodes, encode_same, encodes-append, length-encode, len_utf8_bounds}
 use Rattle.terminals.specs.declared.labels.Grammar.{Grammar}
 use Rattle.terminals.specs.declared.labels.Grammar.TheVariants.{NQuads, TriG}
+use Rattle.terminals.specs.Terminal.{Characters, BeginsWith}
 use Rattle.terminals.specs.Terminals.{ends_label, GoesOnAsLabel, GoesOnAsLabelIn}
 
 abbrev pub is_inner : Grammar → ℕ → Bool
@@ -22,12 +23,25 @@ passing_within p (x ∷ xs) (c ∷ other) back rest e all stops =
     let more = passing_within p xs other back rest tail (λ k d l. all (suc k) d (omega arith)) stops in
     omega arith
 
+-- a terminal that never holds a mark is the longest front that ends before the mark
+pub BeginsWith-before : (mark : ℕ) (terminal : Characters → Characters → Type 0) → ((spelled value : Characters) → terminal spelled value → All (λ c. c ≢ mark) spelled)
+    → (spelled value rest : Characters) → terminal spelled value → BeginsWith terminal (spelled ++ mark ∷ rest) value (mark ∷ rest)
+BeginsWith-before mark terminal without spelled value rest fits = record {
+  spelled = spelled;
+  splits = refl;
+  fits = fits;
+  longest = λ other other_value other_rest e is.
+      passing_within (λ c. not (c == mark)) spelled other (mark ∷ rest) other_rest e
+      (λ k d l. ap not (ne_eqb (get_or other k d) mark (without other other_value is k d l)))
+      (λ c more f. let same : mark ≡ c = cc in ap not (eq-eqb c mark (sym same)));
+}
+
 pub all_append : (P : ℕ → Type 0) (xs ys : List ℕ) → All P xs → All P ys → All P (xs ++ ys)
 all_append P [] ys x y k d l = y k d l
 all_append P (z ∷ xs) ys x y zero d l = x 0 d (omega arith)
 all_append P (z ∷ xs) ys x y (suc k) d l = all_append P xs ys (λ j e m. x (suc j) e (omega arith)) y k d (omega arith)
 
-goes_on_all : (grammar : Grammar) (more : List ℕ) → GoesOnAsLabel grammar more → All (λ c. is_inner grammar c ≡ true) more
+pub goes_on_all : (grammar : Grammar) (more : List ℕ) → GoesOnAsLabel grammar more → All (λ c. is_inner grammar c ≡ true) more
 goes_on_all grammar more (inl e) = subst (All (λ c. is_inner grammar c ≡ true)) (sym e) (λ k d l. absurd (omega arith))
 goes_on_all grammar more (inr (inner, last, e, all, ends)) =
     subst (All (λ c. is_inner grammar c ≡ true)) (sym e)

@@ -5,7 +5,7 @@ use Rattle.std.proofs.lemmas.List.{append_assoc, length-append}
 use Rattle.std.proofs.lemmas.Str.{encode_ascii, encodes_same}
 use Rattle.terminals.specs.declared.bodies.Body.{Body}
 use Rattle.terminals.specs.declared.runs.Spelling.{Spelling}
-use Rattle.terminals.specs.Terminal.{TextBeginsWithNone}
+use Rattle.terminals.specs.Terminal.{BeginsWith, TextBeginsWithNone}
 use Rattle.terminals.specs.Spellings.{stands_for_itself, Spells, SpellsNone, BeginsWithRun}
 use Rattle.terminals.specs.Terminals.{IsBetween, ReadsSpelling}
 use Rattle.terminals.proofs.Escaping.{same_tail}
@@ -30,6 +30,19 @@ same_between open_mark close_mark body inner value rest other other_value other_
     same_tail open_mark open_mark (inner ++ rest) ((is.inner ++ close_mark ∷ []) ++ other_rest) whole ∙ append_assoc is.inner (close_mark ∷ []) other_rest in
     same_run body value other_value inner is.inner rest (close_mark ∷ other_rest) behind spells is.spells none (none_at_mark body close_mark other_rest stops no_escape)
 
+-- characters that are spelled between the marks are the longest such front
+pub BeginsWith-between : (open_mark close_mark : ℕ) (body : Body) → stands_for_itself body close_mark ≡ false → close_mark ≢ 92 → (inner value rest : List ℕ) → Spells body inner value
+    → BeginsWith (IsBetween open_mark close_mark body) (open_mark ∷ (inner ++ close_mark ∷ rest)) value rest
+BeginsWith-between open_mark close_mark body stops no_escape inner value rest spells = record {
+  spelled = open_mark ∷ (inner ++ close_mark ∷ []);
+  splits = ap (λ r. open_mark ∷ r) (sym (append_assoc inner (close_mark ∷ []) rest));
+  fits = record { inner = inner; marks = refl; spells = spells };
+  longest = λ other other_value other_rest e is.
+      let same = same_between open_mark close_mark body inner value (close_mark ∷ rest) other other_value other_rest stops no_escape spells (none_at_mark body close_mark rest stops no_escape) e is in
+      let lengths = ap length same.spelled in
+      omega (arith, ap length is.marks, length-append is.inner (close_mark ∷ []), length-append inner (close_mark ∷ []));
+}
+
 module _ (open_mark close_mark : ℕ) (body : Body) (opens : open_mark < 128) (closes : close_mark < 128)
     (stops : stands_for_itself body close_mark ≡ false) (no_escape : close_mark ≢ 92) (text inner rest : List ℕ) (spelling : Spelling)
     (mark : text ≡ open_mark ∷ inner) (run : BeginsWithRun body inner spelling rest) where
@@ -45,15 +58,8 @@ module _ (open_mark close_mark : ℕ) (body : Body) (opens : open_mark < 128) (c
           text_is = mark ∙ ap (λ r. open_mark ∷ r) run.text_is ∙ sym (encodes_ascii_front open_mark (run.spelled_characters ++ run.rest_characters) opens);
           value_is = refl;
           rest_is = sym back.2;
-          begins = record {
-            spelled = open_mark ∷ (run.spelled_characters ++ close_mark ∷ []);
-            splits = ap (λ r. open_mark ∷ (run.spelled_characters ++ r)) back.1 ∙ ap (λ r. open_mark ∷ r) (sym (append_assoc run.spelled_characters (close_mark ∷ []) back.0));
-            fits = record { inner = run.spelled_characters; marks = refl; spells = run.spells };
-            longest = λ other other_value other_rest e is.
-                let same = same_between open_mark close_mark body run.spelled_characters run.value_characters run.rest_characters other other_value other_rest stops no_escape run.spells run.ends e is in
-                let lengths = ap length same.spelled in
-                omega (arith, ap length is.marks, length-append is.inner (close_mark ∷ []), length-append run.spelled_characters (close_mark ∷ []));
-          };
+          begins = subst (λ r. BeginsWith (IsBetween open_mark close_mark body) (open_mark ∷ (run.spelled_characters ++ r)) run.value_characters back.0) (sym back.1)
+              (BeginsWith-between open_mark close_mark body stops no_escape run.spelled_characters run.value_characters back.0 run.spells);
         };
         spells = record {
           spelled_characters = run.spelled_characters;

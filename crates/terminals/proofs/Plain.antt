@@ -21,7 +21,7 @@ stands_past_ascii (Long Double) c past = grind (arith, nat_tests)
 stands_past_ascii (Long Single) c past = grind (arith, nat_tests)
 
 -- the bytes of a character past ASCII are past ASCII
-byte_past_ascii : (c k : ℕ) → 128 ≤ c → k < length (encode_utf8 c) → 128 ≤ get_or (encode_utf8 c) k 0
+pub byte_past_ascii : (c k : ℕ) → 128 ≤ c → k < length (encode_utf8 c) → 128 ≤ get_or (encode_utf8 c) k 0
 byte_past_ascii c k past within = by (cases_lt (get_or (encode_utf8 c) k 0) 128)
   where
     by : (get_or (encode_utf8 c) k 0 < 128) ⊎ (128 ≤ get_or (encode_utf8 c) k 0) → 128 ≤ get_or (encode_utf8 c) k 0
