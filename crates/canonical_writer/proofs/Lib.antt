@@ -1,16 +1,16 @@
 mod NumeralDigits
-mod Escaping
+pub mod Escaping
 mod Texts
 mod Lines
 mod Pieces
 mod SortedLines
-mod Placing
-mod Splitting
-mod Unescaping
-mod TermTexts
-mod LineTexts
-mod NameTexts
-mod Matching
-mod Partners
+pub mod Placing
+pub mod Splitting
+pub mod Unescaping
+pub mod TermTexts
+pub mod LineTexts
+pub mod NameTexts
+pub mod Matching
+pub mod Partners
 mod TextTells
 pub mod NamedNodes

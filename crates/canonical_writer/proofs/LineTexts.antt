@@ -1,14 +1,14 @@
 -- A statement is known by its canonical line, and a line has a line feed at its end alone.
-use Rattle.std.proofs.Common.{◌≡◌, ◌≢◌, ℕ, List, [], ◌∷◌, ◌++◌, Option, Some, None, All, IfSome, refl, sym, ap, ◌∙◌, arith, append_assoc, length, length-append}
-use Rattle.std.proofs.lemmas.List.Elements.{All-head, All-tail, All-append}
+use Rattle.std.proofs.Common.{◌≡◌, ◌≢◌, ℕ, ◌≤◌, List, [], ◌∷◌, ◌++◌, Option, Some, None, All, IfSome, refl, sym, ap, ◌∙◌, arith, append_assoc, length, length-append}
+use Rattle.std.proofs.lemmas.List.Elements.{All-head, All-tail, All-append, All-weaker}
 use Rattle.rdf_terms.specs.Lists.{Text, joined}
 use Rattle.rdf_terms.specs.Terms.{Statement, IsValidStatement, IsValidTerm}
 use Rattle.rdf_terms.specs.CanonicalForm.{Naming, canonical_term, canonical_graph_name, canonical_line}
 use Rattle.rdf_terms.specs.declared.term.Term.{Term}
 use Rattle.canonical_writer.specs.Determined.{HasPlainNames, Agree, AgreeGraphNames}
 use Rattle.canonical_writer.proofs.Splitting.{head_of, All-none, split_at}
-use Rattle.canonical_writer.proofs.Unescaping.{feedless_byte}
-use Rattle.canonical_writer.proofs.TermTexts.{same_term, no_dot, term-no_feed}
+use Rattle.canonical_writer.proofs.Unescaping.{printable_byte}
+use Rattle.canonical_writer.proofs.TermTexts.{same_term, no_dot, term-printable}
 
 graph_regrouped : (ν : Naming) (t : Term) → (canonical_term ν t ++ 32 ∷ []) ++ 46 ∷ 10 ∷ [] ≡ canonical_term ν t ++ 32 ∷ 46 ∷ 10 ∷ []
 graph_regrouped ν t = append_assoc (canonical_term ν t) (32 ∷ []) (46 ∷ 10 ∷ [])
@@ -31,28 +31,39 @@ module _ (ν ν' : Naming) (m n : ℕ) (plain : HasPlainNames m ν) (plain' : Ha
 
 -- ---- lines one after the other
 
+-- a canonical line without its line feed
+abbrev pub line_body : Naming → Statement → Text
+line_body ν st = canonical_term ν st.subject ++ 32 ∷ (canonical_term ν st.predicate ++ 32 ∷ (canonical_term ν st.object ++ 32 ∷ (canonical_graph_name ν st.graph_name ++ 46 ∷ [])))
+
+pub canonical_line-body : (ν : Naming) (st : Statement) → canonical_line ν st ≡ line_body ν st ++ 10 ∷ []
+unfolding canonical_line
+canonical_line-body ν st = simp append_assoc
+
+module _ (ν : Naming) (n : ℕ) (plain : HasPlainNames n ν) where
+  place-printable : (t : Term) (rest : Text) → IsValidTerm n t → All (λ c. 32 ≤ c) rest → All (λ c. 32 ≤ c) (canonical_term ν t ++ 32 ∷ rest)
+  place-printable t rest v h = All-append (λ c. 32 ≤ c) (canonical_term ν t) (32 ∷ rest) (term-printable ν n plain t v) (printable_byte 32 (omega arith) rest h)
+
+  graph_name-printable : (g : Option Term) → IfSome g (IsValidTerm n) → All (λ c. 32 ≤ c) (canonical_graph_name ν g ++ 46 ∷ [])
+  graph_name-printable None v = printable_byte 46 (omega arith) [] (All-none _)
+  graph_name-printable (Some t) v =
+      rw (append_assoc (canonical_term ν t) (32 ∷ []) (46 ∷ [])) (place-printable t (46 ∷ []) v (printable_byte 46 (omega arith) [] (All-none _)))
+
+  pub line_body-printable : (st : Statement) → IsValidStatement n st → All (λ c. 32 ≤ c) (line_body ν st)
+  line_body-printable st v =
+      place-printable st.subject _ v.subject (place-printable st.predicate _ v.predicate (place-printable st.object _ v.object (graph_name-printable st.graph_name v.graph_name)))
+
 -- a line feed stands at the end of the text and nowhere else
 pub record IsLine (text : Text) : Type 0 where
   pub body : Text
   pub ended : text ≡ body ++ 10 ∷ []
   pub one_feed : All (λ c. c ≢ 10) body
 
-module _ (ν : Naming) (n : ℕ) (plain : HasPlainNames n ν) where
-  place-no_feed : (t : Term) (rest : Text) → IsValidTerm n t → All (λ c. c ≢ 10) rest → All (λ c. c ≢ 10) (canonical_term ν t ++ 32 ∷ rest)
-  place-no_feed t rest v h = All-append (λ c. c ≢ 10) (canonical_term ν t) (32 ∷ rest) (term-no_feed ν n plain t v) (feedless_byte 32 refl rest h)
-
-  graph_name-no_feed : (g : Option Term) → IfSome g (IsValidTerm n) → All (λ c. c ≢ 10) (canonical_graph_name ν g ++ 46 ∷ [])
-  graph_name-no_feed None v = feedless_byte 46 refl [] (All-none _)
-  graph_name-no_feed (Some t) v =
-      rw (append_assoc (canonical_term ν t) (32 ∷ []) (46 ∷ [])) (place-no_feed t (46 ∷ []) v (feedless_byte 46 refl [] (All-none _)))
-
-  pub IsLine-canonical_line : (st : Statement) → IsValidStatement n st → IsLine (canonical_line ν st)
-  unfolding canonical_line
-  IsLine-canonical_line st v = record {
-    body = canonical_term ν st.subject ++ 32 ∷ (canonical_term ν st.predicate ++ 32 ∷ (canonical_term ν st.object ++ 32 ∷ (canonical_graph_name ν st.graph_name ++ 46 ∷ [])));
-    ended = simp append_assoc;
-    one_feed = place-no_feed st.subject _ v.subject (place-no_feed st.predicate _ v.predicate (place-no_feed st.object _ v.object (graph_name-no_feed st.graph_name v.graph_name)));
-  }
+pub IsLine-canonical_line : (ν : Naming) (n : ℕ) → HasPlainNames n ν → (st : Statement) → IsValidStatement n st → IsLine (canonical_line ν st)
+IsLine-canonical_line ν n plain st v = record {
+  body = line_body ν st;
+  ended = canonical_line-body ν st;
+  one_feed = All-weaker (λ c. 32 ≤ c) (λ c. c ≢ 10) (λ c h e. absurd (omega (arith, h, e))) (line_body ν st) (line_body-printable ν n plain st v);
+}
 
 not_empty : (x : Text) (rest : Text) → IsLine x → x ++ rest ≡ [] → ⊥
 not_empty x rest l e =

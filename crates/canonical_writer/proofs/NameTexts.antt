@@ -35,14 +35,15 @@ numbered_name-injective m n e = numeral-injective m n (ap (λ o. tail_of (name_o
 digit-plain : (c : ℕ) → IsDigit c → is_ascii_alphanumeric c ≡ true
 digit-plain c h = grind (arith, nat_tests)
 
-identifier-plain : (prefix : Prefix) (k : ℕ) → All (λ c. is_ascii_alphanumeric c ≡ true) (identifier prefix k)
+pub numeral-plain : (k : ℕ) → All (λ c. is_ascii_alphanumeric c ≡ true) (numeral k)
+numeral-plain k = All-weaker IsDigit (λ c. is_ascii_alphanumeric c ≡ true) digit-plain (numeral k) (All-numeral k)
+
+pub identifier-plain : (prefix : Prefix) (k : ℕ) → All (λ c. is_ascii_alphanumeric c ≡ true) (identifier prefix k)
 identifier-plain Canonical k =
-    let digits : All (λ c. is_ascii_alphanumeric c ≡ true) (numeral k) = All-weaker IsDigit (λ c. is_ascii_alphanumeric c ≡ true) digit-plain (numeral k) (All-numeral k) in
     All-cons (λ c. is_ascii_alphanumeric c ≡ true) 99 (49 ∷ 52 ∷ 110 ∷ numeral k) refl
     (All-cons (λ c. is_ascii_alphanumeric c ≡ true) 49 (52 ∷ 110 ∷ numeral k) refl
-    (All-cons (λ c. is_ascii_alphanumeric c ≡ true) 52 (110 ∷ numeral k) refl (All-cons (λ c. is_ascii_alphanumeric c ≡ true) 110 (numeral k) refl digits)))
-identifier-plain Temporary k =
-    All-cons (λ c. is_ascii_alphanumeric c ≡ true) 98 (numeral k) refl (All-weaker IsDigit (λ c. is_ascii_alphanumeric c ≡ true) digit-plain (numeral k) (All-numeral k))
+    (All-cons (λ c. is_ascii_alphanumeric c ≡ true) 52 (110 ∷ numeral k) refl (All-cons (λ c. is_ascii_alphanumeric c ≡ true) 110 (numeral k) refl (numeral-plain k))))
+identifier-plain Temporary k = All-cons (λ c. is_ascii_alphanumeric c ≡ true) 98 (numeral k) refl (numeral-plain k)
 
 pub HasPlainNames-issued : (prefix : Prefix) (list : List ℕ) (nodes : ℕ) → HasPlainNames nodes (issued_names prefix list)
 HasPlainNames-issued prefix list nodes n h = by (place_of list n)

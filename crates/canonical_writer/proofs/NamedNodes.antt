@@ -1,5 +1,5 @@
 -- Which statements have names for their nodes.
-use Rattle.std.proofs.Common.{◌≡◌, ℕ, ◌<◌, List, [], ◌∷◌, map, All, Option, Some, None, IsSome, IfSome, refl, subst, sym}
+use Rattle.std.proofs.Common.{ℕ, ◌<◌, List, [], ◌∷◌, map, All, Option, Some, None, IsSome, IfSome, refl, subst, sym}
 use Rattle.std.proofs.lemmas.List.Elements.{All-head, All-tail, All-cons}
 use Rattle.rdf_terms.specs.Lists.{Text, In}
 use Rattle.rdf_terms.specs.Terms.{Statement, IsValidStatement, IsValidTerm}

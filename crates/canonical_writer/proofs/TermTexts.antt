@@ -1,8 +1,10 @@
--- A term is known by its text and the space behind it, and the text has no line feed.
-use Rattle.std.proofs.Common.{◌≡◌, ◌≢◌, ℕ, Bool, true, false, if◌then◌else◌, List, [], ◌∷◌, ◌++◌, All, refl, sym, ap, subst, ◌∙◌, arith, append_assoc, true≢false}
+-- A term is known by its text and the space behind it, and the text has no control character.
+use Rattle.std.proofs.Common.{◌≡◌, ◌≢◌, ℕ, ◌≤◌, Bool, true, false, nat_le, if◌then◌else◌, List, [], ◌∷◌, ◌++◌, All, refl, sym, ap, subst, ◌∙◌, arith, append_assoc, true≢false}
 use Rattle.std.specs.Char.{is_ascii_alphabetic, is_ascii_alphanumeric}
 use Rattle.std.specs.List.{flat_map}
 use Rattle.std.specs.Str.{bytes_eq}
+use Rattle.std.proofs.lemmas.Bool.{or_parts}
+use Rattle.std.proofs.lemmas.Bool.Decides.{nat_tests}
 use Rattle.std.proofs.lemmas.List.Elements.{All-head, All-tail, All-cons, All-append, All-weaker}
 use Rattle.std.proofs.lemmas.Slice.Eq.{bytes_eq-Decides}
 use Rattle.rdf_terms.specs.Lists.{Text}
@@ -14,7 +16,7 @@ use Rattle.rdf_terms.specs.declared.term.LiteralKind.{LiteralKind}
 use Rattle.rdf_terms.specs.declared.term.LiteralKind.TheVariants.{Typed, Tagged}
 use Rattle.canonical_writer.specs.Determined.{HasPlainNames, AgreeTerms}
 use Rattle.canonical_writer.proofs.Splitting.{head_of, tail_of, All-none, split_at}
-use Rattle.canonical_writer.proofs.Unescaping.{same_string, no_line_feed, feedless_byte}
+use Rattle.canonical_writer.proofs.Unescaping.{same_string, string-printable, printable_byte}
 
 -- ---- bytes that stand in no IRI, tag or name
 
@@ -22,20 +24,32 @@ iri_without : (d : ℕ) → is_excluded d ≡ true → (t : Text) → IsAbsolute
 iri_without d x t v =
     All-weaker (λ c. is_excluded c ≡ false) (λ c. c ≢ d) (λ c h e. true≢false (sym x ∙ subst (λ k. is_excluded k ≡ false) e h)) t v.allowed
 
-module _ (d : ℕ) (no_letter : is_ascii_alphabetic d ≡ false) (neither : is_ascii_alphanumeric d ≡ false) (no_dash : 45 ≢ d) where
-  plain_without : (t : Text) → All (λ c. is_ascii_alphanumeric c ≡ true) t → All (λ c. c ≢ d) t
-  plain_without t p = All-weaker (λ c. is_ascii_alphanumeric c ≡ true) (λ c. c ≢ d) (λ c h e. true≢false (sym h ∙ (ap is_ascii_alphanumeric e ∙ neither))) t p
+letter-plain : (c : ℕ) → is_ascii_alphabetic c ≡ true → is_ascii_alphanumeric c ≡ true
+letter-plain c h = grind (arith, nat_tests)
 
-  subtags_without : (ts : List Text) → All IsSubtag ts → All (λ c. c ≢ d) (behind_dashes ts)
-  subtags_without [] h = All-none _
-  subtags_without (t ∷ ts) h =
-      All-cons (λ c. c ≢ d) 45 _ no_dash
-      (All-append (λ c. c ≢ d) t (behind_dashes ts) (plain_without t (All-head IsSubtag t ts h).alphanumeric) (subtags_without ts (All-tail IsSubtag t ts h)))
+-- what holds of letters, digits and `-` holds of the bytes of names and tags
+module _ (P : ℕ → Type 0) (plain : (c : ℕ) → is_ascii_alphanumeric c ≡ true → P c) (dash : P 45) where
+  pub All-plain : (t : Text) → All (λ c. is_ascii_alphanumeric c ≡ true) t → All P t
+  All-plain t h = All-weaker (λ c. is_ascii_alphanumeric c ≡ true) P plain t h
 
-  tag_without : (t : Text) → IsLanguageTag t → All (λ c. c ≢ d) t
-  tag_without t v =
-      let first = All-weaker (λ c. is_ascii_alphabetic c ≡ true) (λ c. c ≢ d) (λ c h e. true≢false (sym h ∙ (ap is_ascii_alphabetic e ∙ no_letter))) v.primary v.is_primary.letters in
-      subst (All (λ c. c ≢ d)) (sym v.spelled) (All-append (λ c. c ≢ d) v.primary (behind_dashes v.subtags) first (subtags_without v.subtags v.are_subtags))
+  All-subtags : (ts : List Text) → All IsSubtag ts → All P (behind_dashes ts)
+  All-subtags [] h = All-none _
+  All-subtags (t ∷ ts) h =
+      All-cons P 45 _ dash (All-append P t (behind_dashes ts) (All-plain t (All-head IsSubtag t ts h).alphanumeric) (All-subtags ts (All-tail IsSubtag t ts h)))
+
+  pub All-tag : (t : Text) → IsLanguageTag t → All P t
+  All-tag t v =
+      let first = All-weaker (λ c. is_ascii_alphabetic c ≡ true) P (λ c h. plain c (letter-plain c h)) v.primary v.is_primary.letters in
+      subst (All P) (sym v.spelled) (All-append P v.primary (behind_dashes v.subtags) first (All-subtags v.subtags v.are_subtags))
+
+no_space : (c : ℕ) → is_ascii_alphanumeric c ≡ true → c ≢ 32
+no_space c h e = true≢false (sym h ∙ ap is_ascii_alphanumeric e)
+
+pub name-spaceless : (t : Text) → All (λ c. is_ascii_alphanumeric c ≡ true) t → All (λ c. c ≢ 32) t
+name-spaceless t h = All-weaker (λ c. is_ascii_alphanumeric c ≡ true) (λ c. c ≢ 32) no_space t h
+
+pub tag-spaceless : (t : Text) → IsLanguageTag t → All (λ c. c ≢ 32) t
+tag-spaceless t v = All-tag (λ c. c ≢ 32) no_space (λ h. absurd (omega (arith, h))) t v
 
 -- ---- what stands behind a string
 
@@ -44,7 +58,7 @@ pub data Suffix : LiteralKind → Text → Type 0 where
   of_type : (a : Text) → Suffix (Typed a) (94 ∷ 94 ∷ 60 ∷ (a ++ 62 ∷ []))
   of_tag : (t : Text) → Suffix (Tagged t) (64 ∷ t)
 
-suffix_of : (k : LiteralKind) → Suffix k (canonical_suffix k)
+pub suffix_of : (k : LiteralKind) → Suffix k (canonical_suffix k)
 suffix_of (Tagged t) = of_tag t
 suffix_of (Typed a) = by (bytes_eq a xsd_string) refl
   where
@@ -52,7 +66,7 @@ suffix_of (Typed a) = by (bytes_eq a xsd_string) refl
     by true e = of_string a ((bytes_eq-Decides a xsd_string).0 e)
     by false e = of_type a
 
-type_regrouped : (a r : Text) → (94 ∷ 94 ∷ 60 ∷ (a ++ 62 ∷ [])) ++ 32 ∷ r ≡ 94 ∷ 94 ∷ 60 ∷ (a ++ 62 ∷ 32 ∷ r)
+pub type_regrouped : (a r : Text) → (94 ∷ 94 ∷ 60 ∷ (a ++ 62 ∷ [])) ++ 32 ∷ r ≡ 94 ∷ 94 ∷ 60 ∷ (a ++ 62 ∷ 32 ∷ r)
 type_regrouped a r = ap (λ t. 94 ∷ 94 ∷ 60 ∷ t) (append_assoc a (62 ∷ []) (32 ∷ r))
 
 same_suffix : (k l : LiteralKind) (v w r s : Text) → Suffix k v → Suffix l w → IsValidKind k → IsValidKind l → v ++ 32 ∷ r ≡ w ++ 32 ∷ s → (k ≡ l) × (r ≡ s)
@@ -68,16 +82,15 @@ same_suffix k l v w r s (of_type a) (of_tag b) f g e = absurd (omega (arith, ap 
 same_suffix k l v w r s (of_tag a) (of_string b q) f g e = absurd (omega (arith, ap head_of e))
 same_suffix k l v w r s (of_tag a) (of_type b) f g e = absurd (omega (arith, ap head_of e))
 same_suffix k l v w r s (of_tag a) (of_tag b) f g e =
-    let no_dash : 45 ≢ 32 = λ h. absurd (omega (arith, h)) in
-    let p = split_at 32 a b r s (tag_without 32 refl refl no_dash a f) (tag_without 32 refl refl no_dash b g) (ap tail_of e) in
+    let p = split_at 32 a b r s (tag-spaceless a f) (tag-spaceless b g) (ap tail_of e) in
     (ap Tagged p.0, p.1)
 
 -- ---- terms
 
-iri_regrouped : (a r : Text) → (60 ∷ (a ++ 62 ∷ [])) ++ 32 ∷ r ≡ 60 ∷ (a ++ 62 ∷ 32 ∷ r)
+pub iri_regrouped : (a r : Text) → (60 ∷ (a ++ 62 ∷ [])) ++ 32 ∷ r ≡ 60 ∷ (a ++ 62 ∷ 32 ∷ r)
 iri_regrouped a r = ap (λ t. 60 ∷ t) (append_assoc a (62 ∷ []) (32 ∷ r))
 
-string_regrouped : (a v r : Text) → (34 ∷ (a ++ 34 ∷ v)) ++ 32 ∷ r ≡ 34 ∷ (a ++ 34 ∷ (v ++ 32 ∷ r))
+pub string_regrouped : (a v r : Text) → (34 ∷ (a ++ 34 ∷ v)) ++ 32 ∷ r ≡ 34 ∷ (a ++ 34 ∷ (v ++ 32 ∷ r))
 string_regrouped a v r = ap (λ t. 34 ∷ t) (append_assoc a (34 ∷ v) (32 ∷ r))
 
 module _ (ν ν' : Naming) (m n : ℕ) (plain : HasPlainNames m ν) (plain' : HasPlainNames n ν') where
@@ -90,8 +103,7 @@ module _ (ν ν' : Naming) (m n : ℕ) (plain : HasPlainNames m ν) (plain' : Ha
   same_term (Iri a) (Literal l) r s f g e = absurd (omega (arith, ap head_of e))
   same_term (Blank i) (Iri b) r s f g e = absurd (omega (arith, ap head_of e))
   same_term (Blank i) (Blank j) r s f g e =
-      let no_dash : 45 ≢ 32 = λ h. absurd (omega (arith, h)) in
-      split_at 32 (ν i) (ν' j) r s (plain_without 32 refl refl no_dash (ν i) (plain i f)) (plain_without 32 refl refl no_dash (ν' j) (plain' j g)) (ap (λ t. tail_of (tail_of t)) e)
+      split_at 32 (ν i) (ν' j) r s (name-spaceless (ν i) (plain i f)) (name-spaceless (ν' j) (plain' j g)) (ap (λ t. tail_of (tail_of t)) e)
   same_term (Blank i) (Literal l) r s f g e = absurd (omega (arith, ap head_of e))
   same_term (Literal k) (Iri b) r s f g e = absurd (omega (arith, ap head_of e))
   same_term (Literal k) (Blank j) r s f g e = absurd (omega (arith, ap head_of e))
@@ -107,21 +119,32 @@ no_dot ν (Iri a) x h = absurd (omega (arith, h))
 no_dot ν (Blank j) x h = absurd (omega (arith, h))
 no_dot ν (Literal l) x h = absurd (omega (arith, h))
 
--- ---- no line feed
+-- ---- no control character
 
-closed-no_feed : (a : Text) → IsAbsoluteIri a → All (λ c. c ≢ 10) (60 ∷ (a ++ 62 ∷ []))
-closed-no_feed a f =
-    feedless_byte 60 refl (a ++ 62 ∷ []) (All-append (λ c. c ≢ 10) a (62 ∷ []) (iri_without 10 refl a f) (feedless_byte 62 refl [] (All-none _)))
+allowed-printable : (c : ℕ) → is_excluded c ≡ false → 32 ≤ c
+allowed-printable c h = past c (or_parts (nat_le c 32) _ h).0
+  where
+    past : (c : ℕ) → nat_le c 32 ≡ false → 32 ≤ c
+    past c e = grind (arith, nat_tests)
 
-suffix-no_feed : (k : LiteralKind) (v : Text) → Suffix k v → IsValidKind k → All (λ c. c ≢ 10) v
-suffix-no_feed k v (of_string a p) f = All-none _
-suffix-no_feed k v (of_type a) f = feedless_byte 94 refl (94 ∷ 60 ∷ (a ++ 62 ∷ [])) (feedless_byte 94 refl (60 ∷ (a ++ 62 ∷ [])) (closed-no_feed a f))
-suffix-no_feed k v (of_tag t) f = let no_dash : 45 ≢ 10 = λ h. absurd (omega (arith, h)) in feedless_byte 64 refl t (tag_without 10 refl refl no_dash t f)
+plain-printable : (c : ℕ) → is_ascii_alphanumeric c ≡ true → 32 ≤ c
+plain-printable c h = grind (arith, nat_tests)
 
-pub term-no_feed : (ν : Naming) (n : ℕ) → HasPlainNames n ν → (t : Term) → IsValidTerm n t → All (λ c. c ≢ 10) (canonical_term ν t)
-term-no_feed ν n plain (Iri a) f = closed-no_feed a f
-term-no_feed ν n plain (Blank j) f =
-    let no_dash : 45 ≢ 10 = λ h. absurd (omega (arith, h)) in feedless_byte 95 refl (58 ∷ ν j) (feedless_byte 58 refl (ν j) (plain_without 10 refl refl no_dash (ν j) (plain j f)))
-term-no_feed ν n plain (Literal l) f =
-    feedless_byte 34 refl (flat_map escaped l.lexical ++ 34 ∷ canonical_suffix l.kind) (All-append (λ c. c ≢ 10) (flat_map escaped l.lexical) (34 ∷ canonical_suffix l.kind) (no_line_feed l.lexical)
-    (feedless_byte 34 refl (canonical_suffix l.kind) (suffix-no_feed l.kind (canonical_suffix l.kind) (suffix_of l.kind) f.1)))
+closed-printable : (a : Text) → IsAbsoluteIri a → All (λ c. 32 ≤ c) (60 ∷ (a ++ 62 ∷ []))
+closed-printable a f =
+    printable_byte 60 (omega arith) (a ++ 62 ∷ [])
+    (All-append (λ c. 32 ≤ c) a (62 ∷ []) (All-weaker (λ c. is_excluded c ≡ false) (λ c. 32 ≤ c) allowed-printable a f.allowed) (printable_byte 62 (omega arith) [] (All-none _)))
+
+suffix-printable : (k : LiteralKind) (v : Text) → Suffix k v → IsValidKind k → All (λ c. 32 ≤ c) v
+suffix-printable k v (of_string a p) f = All-none _
+suffix-printable k v (of_type a) f = printable_byte 94 (omega arith) (94 ∷ 60 ∷ (a ++ 62 ∷ [])) (printable_byte 94 (omega arith) (60 ∷ (a ++ 62 ∷ [])) (closed-printable a f))
+suffix-printable k v (of_tag t) f = printable_byte 64 (omega arith) t (All-tag (λ c. 32 ≤ c) plain-printable (omega arith) t f)
+
+pub term-printable : (ν : Naming) (n : ℕ) → HasPlainNames n ν → (t : Term) → IsValidTerm n t → All (λ c. 32 ≤ c) (canonical_term ν t)
+term-printable ν n plain (Iri a) f = closed-printable a f
+term-printable ν n plain (Blank j) f =
+    printable_byte 95 (omega arith) (58 ∷ ν j) (printable_byte 58 (omega arith) (ν j) (All-plain (λ c. 32 ≤ c) plain-printable (omega arith) (ν j) (plain j f)))
+term-printable ν n plain (Literal l) f =
+    printable_byte 34 (omega arith) (flat_map escaped l.lexical ++ 34 ∷ canonical_suffix l.kind)
+    (All-append (λ c. 32 ≤ c) (flat_map escaped l.lexical) (34 ∷ canonical_suffix l.kind) (string-printable l.lexical)
+    (printable_byte 34 (omega arith) (canonical_suffix l.kind) (suffix-printable l.kind (canonical_suffix l.kind) (suffix_of l.kind) f.1)))

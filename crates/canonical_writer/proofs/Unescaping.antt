@@ -1,5 +1,5 @@
--- A string is known by its text with escapes, up to the quote that ends it.
-use Rattle.std.proofs.Common.{◌≡◌, ◌≢◌, ℕ, ◌+◌, ◌-◌, ◌*◌, ◌/◌, ◌%◌, ◌<◌, Bool, true, false, ◌==◌, nat_lt, if◌then◌else◌, [], ◌∷◌, ◌++◌, Option, Some, None, All, refl, sym, ap, ◌∙◌, arith, append_assoc, true≢false}
+-- A string is known by its text with escapes, up to the quote that ends it, and no control character stands in this text.
+use Rattle.std.proofs.Common.{◌≡◌, ◌≢◌, ℕ, ◌+◌, ◌-◌, ◌*◌, ◌/◌, ◌%◌, ◌<◌, ◌≤◌, Bool, true, false, ◌==◌, nat_lt, if◌then◌else◌, [], ◌∷◌, ◌++◌, Option, Some, None, All, refl, sym, ap, ◌∙◌, arith, append_assoc, true≢false}
 use Rattle.std.specs.List.{flat_map}
 use Rattle.std.proofs.lemmas.Bool.{eqb-true, eqb-false, ne_eqb}
 use Rattle.std.proofs.lemmas.Bool.Decides.{nat_tests}
@@ -15,9 +15,9 @@ abbrev pub letter_value : ℕ → ℕ
 letter_value e = if e == 98 then 8 else if e == 116 then 9 else if e == 110 then 10 else if e == 102 then 12 else if e == 114 then 13 else e
 
 pub data Written (c : ℕ) : Text → Type 0 where
-  by_letter : (e : ℕ) → (e == 117) ≡ false → (e == 10) ≡ false → letter_value e ≡ c → Written c (92 ∷ e ∷ [])
+  by_letter : (e : ℕ) → (e == 117) ≡ false → 32 ≤ e → letter_value e ≡ c → Written c (92 ∷ e ∷ [])
   by_number : c < 256 → Written c (92 ∷ 117 ∷ 48 ∷ 48 ∷ hex_digit (c / 16) ∷ hex_digit (c % 16) ∷ [])
-  as_it_stands : c ≢ 92 → c ≢ 34 → c ≢ 10 → Written c (c ∷ [])
+  as_it_stands : c ≢ 92 → c ≢ 34 → 32 ≤ c → Written c (c ∷ [])
 
 pick : (c : ℕ) (x y : Text) (b : Bool) → (b ≡ true → Written c x) → (b ≡ false → Written c y) → Written c (if b then x else y)
 pick c x y true p q = p refl
@@ -26,18 +26,21 @@ pick c x y false p q = q refl
 number-small : (c : ℕ) → is_written_by_number c ≡ true → c < 256
 number-small c h = grind (arith, nat_tests)
 
+plain-printable : (c : ℕ) → (c == 8) ≡ false → (c == 9) ≡ false → (c == 10) ≡ false → (c == 12) ≡ false → (c == 13) ≡ false → is_written_by_number c ≡ false → 32 ≤ c
+plain-printable c bs ht lf ff cr h = grind (arith, nat_tests)
+
 pub written : (c : ℕ) → Written c (escaped c)
 unfolding escaped
 written c =
-    pick c _ _ (c == 8) (λ e. by_letter 98 refl refl (sym (eqb-true c 8 e)))
-    (λ _. pick c _ _ (c == 9) (λ e. by_letter 116 refl refl (sym (eqb-true c 9 e)))
-    (λ _. pick c _ _ (c == 10) (λ e. by_letter 110 refl refl (sym (eqb-true c 10 e)))
-    (λ n. pick c _ _ (c == 12) (λ e. by_letter 102 refl refl (sym (eqb-true c 12 e)))
-    (λ _. pick c _ _ (c == 13) (λ e. by_letter 114 refl refl (sym (eqb-true c 13 e)))
-    (λ _. pick c _ _ (c == 34) (λ e. by_letter 34 refl refl (sym (eqb-true c 34 e)))
-    (λ q. pick c _ _ (c == 92) (λ e. by_letter 92 refl refl (sym (eqb-true c 92 e)))
+    pick c _ _ (c == 8) (λ e. by_letter 98 refl (omega arith) (sym (eqb-true c 8 e)))
+    (λ bs. pick c _ _ (c == 9) (λ e. by_letter 116 refl (omega arith) (sym (eqb-true c 9 e)))
+    (λ ht. pick c _ _ (c == 10) (λ e. by_letter 110 refl (omega arith) (sym (eqb-true c 10 e)))
+    (λ lf. pick c _ _ (c == 12) (λ e. by_letter 102 refl (omega arith) (sym (eqb-true c 12 e)))
+    (λ ff. pick c _ _ (c == 13) (λ e. by_letter 114 refl (omega arith) (sym (eqb-true c 13 e)))
+    (λ cr. pick c _ _ (c == 34) (λ e. by_letter 34 refl (omega arith) (sym (eqb-true c 34 e)))
+    (λ q. pick c _ _ (c == 92) (λ e. by_letter 92 refl (omega arith) (sym (eqb-true c 92 e)))
     (λ b. pick c _ _ (is_written_by_number c) (λ e. by_number (number-small c e))
-    (λ _. as_it_stands (eqb-false c 92 b) (eqb-false c 34 q) (eqb-false c 10 n)))))))))
+    (λ n. as_it_stands (eqb-false c 92 b) (eqb-false c 34 q) (plain-printable c bs ht lf ff cr n)))))))))
 
 -- ---- reading one byte back
 
@@ -108,24 +111,24 @@ same_string (x ∷ xs) (y ∷ ys) r s e =
     let g = same_string xs ys r s f.1 in
     (λ i. f.0 i ∷ g.0 i, g.1)
 
--- ---- no line feed
+-- ---- no control character
 
-hex-no_feed : (d : ℕ) → hex_digit d ≢ 10
-hex-no_feed d h = absurd (grind (arith, nat_tests))
+hex-printable : (d : ℕ) → 32 ≤ hex_digit d
+hex-printable d = grind (arith, nat_tests)
 
-pub feedless_byte : (c : ℕ) → (c == 10) ≡ false → (t : Text) → All (λ c. c ≢ 10) t → All (λ c. c ≢ 10) (c ∷ t)
-feedless_byte c e t h = All-cons (λ c. c ≢ 10) c t (eqb-false c 10 e) h
+pub printable_byte : (c : ℕ) → 32 ≤ c → (t : Text) → All (λ c. 32 ≤ c) t → All (λ c. 32 ≤ c) (c ∷ t)
+printable_byte c e t h = All-cons (λ c. 32 ≤ c) c t e h
 
-no_feed : (c : ℕ) (w : Text) → Written c w → All (λ c. c ≢ 10) w
-no_feed c w (by_letter e n m v) = feedless_byte 92 refl (e ∷ []) (feedless_byte e m [] (All-none _))
-no_feed c w (by_number k) =
+printable : (c : ℕ) (w : Text) → Written c w → All (λ c. 32 ≤ c) w
+printable c w (by_letter e n m v) = printable_byte 92 (omega arith) (e ∷ []) (printable_byte e m [] (All-none _))
+printable c w (by_number k) =
     let low : Text = hex_digit (c % 16) ∷ [] in
     let high : Text = hex_digit (c / 16) ∷ low in
-    let lows : All (λ c. c ≢ 10) low = All-cons (λ c. c ≢ 10) (hex_digit (c % 16)) [] (hex-no_feed (c % 16)) (All-none _) in
-    let highs : All (λ c. c ≢ 10) high = All-cons (λ c. c ≢ 10) (hex_digit (c / 16)) low (hex-no_feed (c / 16)) lows in
-    feedless_byte 92 refl (117 ∷ 48 ∷ 48 ∷ high) (feedless_byte 117 refl (48 ∷ 48 ∷ high) (feedless_byte 48 refl (48 ∷ high) (feedless_byte 48 refl high highs)))
-no_feed c w (as_it_stands b q n) = All-cons (λ c. c ≢ 10) c [] n (All-none _)
+    let lows : All (λ c. 32 ≤ c) low = printable_byte (hex_digit (c % 16)) (hex-printable (c % 16)) [] (All-none _) in
+    let highs : All (λ c. 32 ≤ c) high = printable_byte (hex_digit (c / 16)) (hex-printable (c / 16)) low lows in
+    printable_byte 92 (omega arith) (117 ∷ 48 ∷ 48 ∷ high) (printable_byte 117 (omega arith) (48 ∷ 48 ∷ high) (printable_byte 48 (omega arith) (48 ∷ high) (printable_byte 48 (omega arith) high highs)))
+printable c w (as_it_stands b q n) = printable_byte c n [] (All-none _)
 
-pub no_line_feed : (xs : Text) → All (λ c. c ≢ 10) (flat_map escaped xs)
-no_line_feed [] = All-none _
-no_line_feed (x ∷ xs) = rw (flat_map-cons escaped x xs) (All-append (λ c. c ≢ 10) (escaped x) (flat_map escaped xs) (no_feed x (escaped x) (written x)) (no_line_feed xs))
+pub string-printable : (xs : Text) → All (λ c. 32 ≤ c) (flat_map escaped xs)
+string-printable [] = All-none _
+string-printable (x ∷ xs) = rw (flat_map-cons escaped x xs) (All-append (λ c. 32 ≤ c) (escaped x) (flat_map escaped xs) (printable x (escaped x) (written x)) (string-printable xs))
