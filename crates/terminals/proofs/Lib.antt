@@ -9,3 +9,5 @@ pub mod Labelling
 pub mod LabelFound
 pub mod Tagging
 pub mod Facts
+pub mod CanonicalStrings
+pub mod PlainLabels

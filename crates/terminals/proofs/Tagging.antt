@@ -52,7 +52,7 @@ against_dashes p dash (z ∷ xs) (c ∷ other) after subtags rest e x y stops =
     elim (against_dashes p dash xs other after subtags rest tail (λ k d l. x (suc k) d (omega arith)) (λ k d l. y (suc k) d (omega arith)) stops)
     [ inl r ↦ inl (omega arith, r.1) | inr r ↦ inr ((λ i. sym head i ∷ r.0 i), r.1) ]
 
-alphanumeric_ascii : (c : ℕ) → is_ascii_alphanumeric c ≡ true → c < 128
+pub alphanumeric_ascii : (c : ℕ) → is_ascii_alphanumeric c ≡ true → c < 128
 alphanumeric_ascii c h = grind (arith, nat_tests)
 
 alphabetic_ascii : (c : ℕ) → is_ascii_alphabetic c ≡ true → c < 128
