@@ -7,3 +7,14 @@ mod Room
 mod ValidQuad
 mod ReadLines
 mod Used
+mod Adding
+mod OneReading
+mod WrittenTerminals
+mod WrittenQuads
+mod WrittenTerms
+mod WrittenLines
+mod WrittenLabels
+mod NumberedNames
+mod ReadLabels
+mod ReadStatements
+mod RoundTrip

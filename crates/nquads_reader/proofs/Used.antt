@@ -47,12 +47,12 @@ all_stay : {A : Type 0} (old xs new : List A) (y : A) → AddsAll old xs new →
 all_stay old [] new y h i = subst (In y) (sym h) i
 all_stay old (x ∷ xs) new y h i = all_stay h.0 xs new y h.2 (added_stays old x h.0 y h.1 i)
 
-all_there : {A : Type 0} (old xs new : List A) (y : A) → AddsAll old xs new → In y xs → In y new
+pub all_there : {A : Type 0} (old xs new : List A) (y : A) → AddsAll old xs new → In y xs → In y new
 all_there old [] new y h i = absurd i
 all_there old (x ∷ xs) new y h (inl e) = all_stay h.0 xs new y h.2 (subst (λ z. In z h.0) (sym e) (added_there old x h.0 h.1))
 all_there old (x ∷ xs) new y h (inr i) = all_there h.0 xs new y h.2 i
 
-all_from : {A : Type 0} (old xs new : List A) (y : A) → AddsAll old xs new → In y new → In y old ⊎ In y xs
+pub all_from : {A : Type 0} (old xs new : List A) (y : A) → AddsAll old xs new → In y new → In y old ⊎ In y xs
 all_from old [] new y h i = inl (subst (In y) h i)
 all_from old (x ∷ xs) new y h i =
     elim (all_from h.0 xs new y h.2 i) as (λ _. In y old ⊎ In y (x ∷ xs)) [

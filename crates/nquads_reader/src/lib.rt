@@ -5,6 +5,7 @@ pub use fault::ReadFault;
 pub use read::read_nquads;
 
 mod fault;
+pub mod laws;
 mod line;
 mod lines;
 mod number;
