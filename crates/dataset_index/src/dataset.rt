@@ -9,6 +9,7 @@ ghost use Rattle.dataset_index.specs.QuadOrder.{Ascend};
 use crate::mentions::note_all;
 use crate::node_index::NodeIndex;
 use crate::node_terms::node_terms;
+use crate::term_nodes::TermNodes;
 use rdf_terms::{Label, NoMemory, Parsed, Quad, TermTable};
 use std::alloc::Global;
 use std::marker::Model;
@@ -53,8 +54,10 @@ impl Dataset {
     {
         let quads = in_order(alloc, parsed.quads())?;
         let nodes = parsed.labels().len();
-        let node_terms = node_terms(alloc, parsed.terms(), nodes)?;
-        let notes = note_all(alloc, parsed.terms(), quads.as_slice())?;
+        let term_nodes = TermNodes::of(alloc, parsed.terms())?;
+        let node_terms = node_terms(alloc, &term_nodes, nodes)?;
+        let notes = note_all(alloc, &term_nodes, quads.as_slice())?;
+        drop(term_nodes);
         let index = NodeIndex::build(alloc, nodes as u32, notes)?;
         Ok(Dataset {
             parsed,

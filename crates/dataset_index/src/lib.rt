@@ -8,3 +8,4 @@ mod mention;
 mod mentions;
 mod node_index;
 mod node_terms;
+mod term_nodes;

@@ -3,14 +3,14 @@ ghost use Rattle.rdf_terms.specs.Lists.{AreDistinct};
 ghost use Rattle.rdf_terms.specs.declared.term.Term.TheVariants.{Blank};
 ghost use Rattle.dataset_index.specs.NodeTerms.{NumbersNodes};
 
-use crate::mentions::node_of;
-use rdf_terms::{NoMemory, TermTable};
+use crate::term_nodes::TermNodes;
+use rdf_terms::NoMemory;
 use std::alloc::Global;
 
 // The number of each node's term.
 pub(crate) fn node_terms(
     alloc: Global,
-    terms: &TermTable,
+    terms: &TermNodes<'_>,
     nodes: usize,
 ) -> Result<Vec<u32>, NoMemory>
     requires { (n k : ℕ) → slice_get terms.now k ≡ Some (Blank n) → n < nodes }
@@ -20,7 +20,7 @@ pub(crate) fn node_terms(
 {
     let mut numbers = vec![in alloc; 0; nodes]?;
     for number in 0..terms.len() {
-        if let Some(node) = node_of(terms, number) {
+        if let Some(node) = terms.node_of(number) {
             numbers[node as usize] = number;
         }
     }

@@ -110,8 +110,10 @@ impl TermTable {
         Some(index as u32)
     }
 
-    pub(crate) fn as_slice(&self) -> &[Term]
-        ensures { result.now ≡ self.now }
+    /// The terms by number.
+    pub fn as_slice(&self) -> &[Term]
+        ensures terms { result.now ≡ self.now }
+        ensures distinct { AreDistinct self.now }
     {
         self.terms.as_slice()
     }

@@ -11,7 +11,7 @@ no_quad = record { s = 0; p = 0; o = 0; g = None }
 
 pub loop-place-preserved : goal.loop-place-preserved
 loop-place-preserved c =
-    let terms = c.args.terms.now in
+    let terms = c.args.nodes.now in
     let quads = c.args.quads.now in
     let at = slice_get-map (statement terms) quads c.loop-place.place ∙ ap (option_map (statement terms)) (slice_get-get_or quads c.loop-place.place no_quad (omega arith)) in
     (NotesPlaces-more (map (statement terms) quads) c.loop-place.notes.items c.note_quad.new.notes.items c.loop-place.place (statement terms (get_or quads c.loop-place.place no_quad)) at c.loop-place.invariant.0 c.in_ok-note_quad.ensures.noted, omega arith)

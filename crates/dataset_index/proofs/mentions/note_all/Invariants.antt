@@ -4,4 +4,4 @@ use Rattle.dataset_index.specs.Mentions.{NotesPlaces}
 use Rattle.dataset_index.proofs.mentions.note_all.Given as goal
 
 abbrev pub invariant-loop-place : goal.invariant-loop-place
-invariant-loop-place l = NotesPlaces (map (statement l.terms) l.quads) l.notes.items l.place × (length l.notes.items ≤ 3 * l.place)
+invariant-loop-place l = NotesPlaces (map (statement l.nodes) l.quads) l.notes.items l.place × (length l.notes.items ≤ 3 * l.place)

@@ -7,13 +7,13 @@ use Rattle.rdf_terms.proofs.finish.used_nodes.Goals as goal
 
 pub mark-requires : goal.mark-requires
 mark-requires c = λ n e.
-    let at = slice_get_read c.args.terms.now (length c.args.terms.now) c.loop-term.term-index c.term-item.result refl (rw c.as_slice-term-items.ensures at c.loop-term-test.true) (rw c.as_slice-term-items.ensures at c.term-item.is) in
+    let at = slice_get_read c.args.terms.now (length c.args.terms.now) c.loop-term.term-index c.term-item.result refl (rw c.as_slice-term-items.ensures.terms at c.loop-term-test.true) (rw c.as_slice-term-items.ensures.terms at c.term-item.is) in
     let low = c.requires n (subst (λ t. In t c.args.terms.now) e (In-at c.args.terms.now c.loop-term.term-index c.term-item.result at)) in
     omega (arith, low, c.loop-term.invariant.len)
 
 pub loop-term-preserved : goal.loop-term-preserved
 loop-term-preserved c =
-    let at = slice_get_read c.args.terms.now (length c.args.terms.now) c.loop-term.term-index c.term-item.result refl (rw c.as_slice-term-items.ensures at c.loop-term-test.true) (rw c.as_slice-term-items.ensures at c.term-item.is) in
+    let at = slice_get_read c.args.terms.now (length c.args.terms.now) c.loop-term.term-index c.term-item.result refl (rw c.as_slice-term-items.ensures.terms at c.loop-term-test.true) (rw c.as_slice-term-items.ensures.terms at c.term-item.is) in
     Marks-mark c.loop-term.used.items c.args.nodes c.args.terms.now c.loop-term.term-index c.term-item.result c.mark.new.used.items at
     (λ n e. c.requires n (subst (λ t. In t c.args.terms.now) e (In-at c.args.terms.now c.loop-term.term-index c.term-item.result at)))
     c.mark.ensures c.loop-term.invariant

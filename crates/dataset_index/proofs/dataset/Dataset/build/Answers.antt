@@ -12,13 +12,13 @@ use Rattle.dataset_index.proofs.dataset.Dataset.build.Goals as goal
 pub node_terms-requires : goal.node_terms-requires
 node_terms-requires c n k e =
     subst (λ ls. n < length ls) (sym c.labels-nodes.ensures.labels)
-    (node_below c.args.parsed c.labels-nodes.ensures.document n k (subst (λ ts. slice_get ts k ≡ Some (Blank n)) c.terms.ensures e))
+    (node_below c.args.parsed c.labels-nodes.ensures.document n k (subst (λ ts. slice_get ts k ≡ Some (Blank n)) (c.in_ok-term_nodes.ensures ∙ c.terms.ensures) e))
 
 pub note_all-requires-clause-in_range : goal.note_all-requires-clause-in_range
 note_all-requires-clause-in_range c =
     let p = subst (λ qs. IsPermutation qs c.in_ok-quads.quads.items) c.quads.ensures.quads c.in_ok-quads.ensures.permutes in
     let d = IsDocument-ordered c.args.parsed.terms c.args.parsed.quads c.in_ok-quads.quads.items c.args.parsed.labels p c.quads.ensures.document in
-    subst (λ ts. All (IsInRange ts) c.as_slice.result.now) (sym c.terms-2.ensures)
+    subst (λ ts. All (IsInRange ts) c.as_slice.result.now) (sym (c.in_ok-term_nodes.ensures ∙ c.terms.ensures))
     (subst (All (IsInRange c.args.parsed.terms)) (sym c.as_slice.ensures.value) d.draft.in_range)
 
 pub note_all-requires-clause-bound : goal.note_all-requires-clause-bound
@@ -34,13 +34,13 @@ invariant_of-result c =
     let numbers = c.in_ok-node_terms.node_terms.items in
     let notes = c.in_ok-notes.notes.items in
     indexed (record { terms = c.args.parsed.terms; quads = c.in_ok-quads.quads.items; labels = c.args.parsed.labels }) numbers notes c.in_ok-index.index
-    (subst AreDistinct c.terms.ensures c.in_ok-node_terms.ensures.distinct)
+    (subst AreDistinct (c.in_ok-term_nodes.ensures ∙ c.terms.ensures) c.in_ok-node_terms.ensures.distinct)
     d
     c.in_ok-quads.ensures.ascend
     (c.in_ok-node_terms.ensures.count ∙ ap length c.labels-nodes.ensures.labels)
-    (subst (λ ts. NumbersNodes ts numbers (length ts)) c.terms.ensures c.in_ok-node_terms.ensures.numbers)
-    (subst (λ ts. NotesPlaces (map (statement ts) c.in_ok-quads.quads.items) notes (length c.in_ok-quads.quads.items)) c.terms-2.ensures
-    (subst (λ qs. NotesPlaces (map (statement c.terms-2.result.now) qs) notes (length qs)) c.as_slice.ensures.value c.in_ok-notes.ensures.places))
+    (subst (λ ts. NumbersNodes ts numbers (length ts)) (c.in_ok-term_nodes.ensures ∙ c.terms.ensures) c.in_ok-node_terms.ensures.numbers)
+    (subst (λ ts. NotesPlaces (map (statement ts) c.in_ok-quads.quads.items) notes (length c.in_ok-quads.quads.items)) (c.in_ok-term_nodes.ensures ∙ c.terms.ensures)
+    (subst (λ qs. NotesPlaces (map (statement c.in_ok-term_nodes.term_nodes) qs) notes (length qs)) c.as_slice.ensures.value c.in_ok-notes.ensures.places))
     (c.in_ok-index.ensures ∙ ap (λ ls. map (noted_places notes) (numbers_below (length ls))) c.labels-nodes.ensures.labels)
 
 pub returns-clause-quads : goal.returns-clause-quads
