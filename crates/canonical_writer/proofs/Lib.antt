@@ -1,11 +1,13 @@
 mod NumeralDigits
 pub mod Escaping
-mod Texts
-mod Lines
-mod Pieces
-mod SortedLines
+pub mod Texts
+mod LinePlaces
+pub mod Pieces
 pub mod Placing
 pub mod Splitting
+mod Fronts
+mod Groups
+mod Stretches
 pub mod Unescaping
 pub mod TermTexts
 pub mod LineTexts

@@ -9,7 +9,7 @@ use Rattle.rdf_terms.specs.Lists.{Text, joined}
 longer : (a b : List ℕ) → StartsWith b a → length a ≤ length b
 longer a b h = let e : min (length a) (length b) ≡ length a = sym (length-take (length a) b) ∙ ap length h in omega arith
 
-starts_append : (a b r : List ℕ) → StartsWith b a → StartsWith (b ++ r) a
+pub starts_append : (a b r : List ℕ) → StartsWith b a → StartsWith (b ++ r) a
 starts_append a b r h = take-append-le (length a) b r (longer a b h) ∙ h
 
 pub starts_through : (a b c : List ℕ) → StartsWith b a → StartsWith c b → StartsWith c a
@@ -30,3 +30,14 @@ pub joined_more : {X : Type 0} (f : X → Text) (xs : List X) (i : ℕ) (d : X) 
 joined_more f xs i d t h e =
     ap (λ s. s ++ f (get_or xs i d)) e
     ∙ sym (ap joined (map_more f xs i d h) ∙ (joined-append (map f (take i xs)) (f (get_or xs i d) ∷ []) ∙ ap (λ s. joined (map f (take i xs)) ++ s) (append-nil (f (get_or xs i d)))))
+
+-- one more text behind what was there
+pub joined_behind : {X : Type 0} (f : X → Text) (xs : List X) (i : ℕ) (d : X) (before t new : Text) → i < length xs → t ≡ before ++ joined (map f (take i xs)) → new ≡ t ++ f (get_or xs i d)
+    → new ≡ before ++ joined (map f (take (i + 1) xs))
+joined_behind f xs i d before t new h e n =
+    n ∙ (ap (λ s. s ++ f (get_or xs i d)) e ∙ (append_assoc before (joined (map f (take i xs))) (f (get_or xs i d)) ∙ ap (λ s. before ++ s) (joined_more f xs i d _ h refl)))
+
+pub map_behind : {X Y : Type 0} (f : X → Y) (xs : List X) (i : ℕ) (d : X) (before t new : List Y) → i < length xs → t ≡ before ++ map f (take i xs) → new ≡ t ++ f (get_or xs i d) ∷ []
+    → new ≡ before ++ map f (take (i + 1) xs)
+map_behind f xs i d before t new h e n =
+    n ∙ (ap (λ s. s ++ f (get_or xs i d) ∷ []) e ∙ (append_assoc before (map f (take i xs)) (f (get_or xs i d) ∷ []) ∙ ap (λ s. before ++ s) (sym (map_more f xs i d h))))

@@ -3,3 +3,4 @@ pub mod Escapes
 pub mod Pieces
 pub mod Places
 pub mod Determined
+pub mod Runs

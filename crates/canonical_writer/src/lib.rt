@@ -2,6 +2,7 @@
 #![tactic(auto)]
 
 pub use line::push_line;
+pub use lines::Lines;
 pub use list_names::ListNames;
 pub use names::{DegreeNames, Names, NumberNames};
 pub use sorted::write_sorted;
@@ -9,7 +10,9 @@ pub use sorted::write_sorted;
 mod escape;
 pub mod laws;
 mod line;
+mod lines;
 mod list_names;
 mod names;
 mod numeral;
+mod runs;
 mod sorted;

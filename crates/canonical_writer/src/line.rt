@@ -5,6 +5,7 @@ ghost use Rattle.std.specs.Str.{bytes_eq};
 ghost use Rattle.rdf_terms.specs.CanonicalForm.{canonical_line, canonical_term, canonical_graph_name, canonical_suffix, escaped, xsd_string};
 ghost use Rattle.rdf_terms.specs.Document.{statement, term_at, graph_name_at, IsInRange};
 ghost use Rattle.canonical_writer.specs.Names.{naming_of, HasNames, IsNamed};
+ghost use Rattle.canonical_writer.specs.Runs.{line_start};
 
 use crate::escape::push_escaped;
 use crate::names::Names;
@@ -49,6 +50,27 @@ fn append_line<N: Names>(
     push_graph_name(out, terms, quad.g, names)?;
     out.extend_from_slice(b".\n")?;
     Ok(())
+}
+
+/// Appends the start of the lines of a subject: the subject, and the space behind it. After an `Err`
+/// the bytes are as before.
+pub(crate) fn push_start<N: Names>(
+    out: &mut Vec<u8>,
+    terms: &TermTable,
+    subject: u32,
+    names: &N,
+) -> Result<(), NoMemory>
+    requires in_range { subject < length terms.now }
+    requires named { IsNamed (N.name names.now) (term_at terms.now subject) }
+    ensures ok { OnOk result (out.new.items ≡ out.old.items ++ line_start (naming_of (N.name names.now)) (term_at terms.now subject)) }
+    ensures err { OnErr result (out.new.items ≡ out.old.items) }
+{
+    let before = out.len();
+    let result = push_place(out, terms, subject, names);
+    if result.is_err() {
+        out.truncate(before);
+    }
+    result
 }
 
 fn push_graph_name<N: Names>(

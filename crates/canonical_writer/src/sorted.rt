@@ -1,12 +1,16 @@
-ghost use Rattle.std.specs.Prelude.{◌≡◌, ◌≤◌, length, map, sum, All, IfOk};
+ghost use Rattle.std.specs.Prelude.{◌≡◌, ◌++◌, map, true, All, IfOk, OnOk};
+ghost use Rattle.std.specs.Io.{StartsWith};
+ghost use Rattle.std.specs.Bool.{Decides};
+ghost use Rattle.std.specs.List.{flat_map};
 ghost use Rattle.rdf_terms.specs.CanonicalForm.{canonical_line};
 ghost use Rattle.rdf_terms.specs.Document.{statement, IsInRange};
-ghost use Rattle.rdf_terms.specs.Lists.{sorted, joined};
+ghost use Rattle.rdf_terms.specs.Lists.{sorted, joined, is_at_most};
 ghost use Rattle.canonical_writer.specs.Names.{naming_of, HasNames};
-ghost use Rattle.canonical_writer.specs.Pieces.{pieces};
+ghost use Rattle.canonical_writer.specs.Runs.{lines_of, IsRun, KeysAscend};
 
-use crate::line::push_line;
+use crate::lines::Lines;
 use crate::names::Names;
+use crate::runs::{Run, cut_at_subjects, sorted_runs};
 use rdf_terms::{Bytes, NoMemory, Quad, TermTable};
 use std::alloc::Global;
 
@@ -22,48 +26,69 @@ pub fn write_sorted<N: Names>(
     requires named { All (λ q. HasNames (N.name names.now) (statement terms.now q)) quads.now }
     ensures { IfOk result (λ text. text ≡ joined (sorted (map (canonical_line (naming_of (N.name names.now))) (map (statement terms.now) quads.now)))) }
 {
+    let mut keys = Lines::new(alloc);
+    let stretches = cut_at_subjects(alloc, terms, quads, names, &mut keys)?;
+    let runs = sorted_runs(alloc, &keys, stretches.as_slice())?;
+    write_runs(alloc, terms, runs.as_slice(), names)
+}
+
+/// The lines of the runs in byte order, one after the other. A run and those behind it whose keys go
+/// on behind its own make a group: all lines of a group are before those of the next.
+fn write_runs<N: Names>(
+    alloc: Global,
+    terms: &TermTable,
+    runs: &[Run<'_>],
+    names: &N,
+) -> Result<Bytes, NoMemory>
+    requires runs { All (λ r. IsRun (N.name names.now) terms.now r.key.now r.quads.now) runs.now }
+    requires sorted { KeysAscend (λ r. r.key.now) runs.now }
+    ensures { IfOk result (λ text. text ≡ joined (sorted (flat_map (λ r. lines_of (naming_of (N.name names.now)) terms.now r.quads.now) runs.now))) }
+{
     let mut text = Vec::new(alloc);
-    let mut lengths = Vec::with_capacity(alloc, quads.len())?;
+    let mut group = Lines::new(alloc);
+    let mut front = first_key(runs);
+    for run in runs {
+        if !begins_with(run.key, front) {
+            group.append_sorted(alloc, &mut text)?;
+            group.clear();
+            front = run.key;
+        }
+        push_lines(&mut group, terms, run.quads, names)?;
+    }
+    group.append_sorted(alloc, &mut text)?;
+    Ok(Bytes::new(text))
+}
+
+/// The key of the first run.
+fn first_key<'a>(runs: &[Run<'a>]) -> &'a [u8]
+    requires { KeysAscend (λ r. r.key.now) runs.now }
+    ensures { All (λ r. is_at_most result.now r.key.now ≡ true) runs.now }
+{
+    match runs.first() {
+        Some(run) => run.key,
+        None => b"",
+    }
+}
+
+fn begins_with(text: &[u8], front: &[u8]) -> bool
+    ensures { Decides result (StartsWith text.now front.now) }
+{
+    text.starts_with(front)
+}
+
+/// Adds the lines of the quads.
+fn push_lines<N: Names>(
+    lines: &mut Lines,
+    terms: &TermTable,
+    quads: &[Quad],
+    names: &N,
+) -> Result<(), NoMemory>
+    requires in_range { All (IsInRange terms.now) quads.now }
+    requires named { All (λ q. HasNames (N.name names.now) (statement terms.now q)) quads.now }
+    ensures { OnOk result (lines.new ≡ lines.old ++ lines_of (naming_of (N.name names.now)) terms.now quads.now) }
+{
     for quad in quads {
-        let before = text.len();
-        push_line(&mut text, terms, *quad, names)?;
-        lengths.push(text.len() - before)?;
+        lines.push(terms, *quad, names)?;
     }
-    sort_pieces(alloc, text.as_slice(), lengths.as_slice())
-}
-
-/// The pieces of these lengths in byte order, one after the other.
-fn sort_pieces(alloc: Global, text: &[u8], lengths: &[usize]) -> Result<Bytes, NoMemory>
-    requires { sum lengths.now ≤ length text.now }
-    ensures { IfOk result (λ t. t ≡ joined (sorted (pieces text.now lengths.now))) }
-{
-    let mut lines = split(alloc, text, lengths)?;
-    lines.sort_unstable();
-    join(alloc, lines.as_slice(), text.len())
-}
-
-/// Cuts a text into pieces of these lengths, which lie one after the other from its start.
-fn split<'a>(alloc: Global, text: &'a [u8], lengths: &[usize]) -> Result<Vec<&'a [u8]>, NoMemory>
-    requires { sum lengths.now ≤ length text.now }
-    ensures { IfOk result (λ v. map (λ p. p.now) v.items ≡ pieces text.now lengths.now) }
-{
-    let mut parts = Vec::with_capacity(alloc, lengths.len())?;
-    let mut rest = text;
-    for length in lengths {
-        let (piece, behind) = rest.split_at(*length);
-        parts.push(piece)?;
-        rest = behind;
-    }
-    Ok(parts)
-}
-
-/// The texts one after the other; together they have this length.
-fn join(alloc: Global, texts: &[&[u8]], length: usize) -> Result<Bytes, NoMemory>
-    ensures { IfOk result (λ text. text ≡ joined (map (λ t. t.now) texts.now)) }
-{
-    let mut joined = Vec::with_capacity(alloc, length)?;
-    for text in texts {
-        joined.extend_from_slice(text)?;
-    }
-    Ok(Bytes::new(joined))
+    Ok(())
 }

@@ -1,2 +1,1 @@
-mod LineTexts
 mod Places

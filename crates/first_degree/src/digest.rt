@@ -3,14 +3,14 @@ ghost use Rattle.sha2.specs.Sha256.{sha256};
 ghost use Rattle.hex.specs.Hex.{encode_lower};
 ghost use Rattle.rdf_terms.specs.Lists.{joined, sorted};
 
-use crate::lines::Lines;
 use canon_model::HexHash;
+use canonical_writer::Lines;
 use rdf_terms::NoMemory;
 use sha2::{Digest, Sha256};
 use std::alloc::Global;
 
 /// The digest of the lines in byte order, one after the other.
-#[tactic(auto, using(crate::proofs::LineTexts::sorted_short))]
+#[tactic(auto, using(canonical_writer::proofs::Pieces::sorted_short))]
 pub(crate) fn digest_sorted(alloc: Global, lines: &Lines) -> Result<[u8; 32], NoMemory>
     ensures { IfOk result (λ digest. digest ≡ sha256 (joined (sorted lines.now))) }
 {

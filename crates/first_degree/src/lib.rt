@@ -4,6 +4,5 @@
 pub use table::FirstTable;
 
 mod digest;
-mod lines;
 mod node_hash;
 mod table;

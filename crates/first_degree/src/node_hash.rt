@@ -5,9 +5,8 @@ ghost use Rattle.canon_model.specs.FirstDegree.{hash_first_degree_quads};
 ghost use Rattle.first_degree.specs.FirstHashes.{first_degree_lines, line_at};
 
 use crate::digest::{digest_sorted, in_hexadecimal};
-use crate::lines::Lines;
 use canon_model::HexHash;
-use canonical_writer::DegreeNames;
+use canonical_writer::{DegreeNames, Lines};
 use dataset_index::Dataset;
 use rdf_terms::NoMemory;
 use std::alloc::Global;

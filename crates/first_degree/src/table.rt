@@ -1,9 +1,9 @@
 ghost use Rattle.std.specs.Prelude.{◌≡◌, ◌<◌, Some, length, slice_get, IfOk};
 ghost use Rattle.first_degree.specs.FirstHashes.{first_degree_hashes};
 
-use crate::lines::Lines;
 use crate::node_hash::hash_node;
 use canon_model::HexHash;
+use canonical_writer::Lines;
 use dataset_index::Dataset;
 use rdf_terms::NoMemory;
 use std::alloc::Global;

@@ -1,4 +1,4 @@
-use Rattle.canonical_writer.proofs.Lines.{line_by_places}
+use Rattle.canonical_writer.proofs.LinePlaces.{line_by_places}
 use Rattle.canonical_writer.proofs.line.append_line.Goals as goal
 
 pub returns-clause-ok : goal.returns-clause-ok

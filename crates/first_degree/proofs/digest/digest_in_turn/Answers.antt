@@ -1,14 +1,14 @@
-use Rattle.std.proofs.Common.{map, subst, sym, ap, ◌∙◌}
+use Rattle.std.proofs.Common.{map, subst, refl, ap, ◌∙◌}
 use Rattle.std.proofs.lemmas.List.{take_all}
 use Rattle.sha2.specs.Hashers.{Holds256}
 use Rattle.sha2.specs.Sha256.{sha256}
 use Rattle.rdf_terms.specs.Lists.{joined}
-use Rattle.first_degree.proofs.LineTexts.{joined-more}
+use Rattle.canonical_writer.proofs.Texts.{joined_more}
 use Rattle.first_degree.proofs.digest.digest_in_turn.Goals as goal
 
 pub loop-text-preserved : goal.loop-text-preserved
 loop-text-preserved c =
-    subst (λ m. Holds256 c.update.new.self m) (sym (joined-more (λ t. t.now) c.args.texts.now c.loop-text.text-index _ c.loop-text-test.true)) (c.update.ensures _ c.loop-text.invariant)
+    subst (λ m. Holds256 c.update.new.self m) (joined_more (λ t. t.now) c.args.texts.now c.loop-text.text-index _ _ c.loop-text-test.true refl) (c.update.ensures _ c.loop-text.invariant)
 
 pub returns : goal.returns
 returns c =

@@ -1,0 +1,8 @@
+use Rattle.std.proofs.Common.{◌≡◌, ◌++◌, take}
+use Rattle.canonical_writer.specs.Names.{naming_of}
+use Rattle.canonical_writer.specs.Runs.{lines_of}
+use Rattle.canonical_writer.proofs.sorted.push_lines.Given as goal
+
+-- the lines so far
+abbrev pub invariant-loop-quad : goal.invariant-loop-quad
+invariant-loop-quad g l = l.lines ≡ l.fn.lines ++ lines_of (naming_of (g.N.Names.name l.names)) l.terms (take l.quad-index l.quads)

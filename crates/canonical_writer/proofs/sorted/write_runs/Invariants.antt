@@ -1,0 +1,7 @@
+use Rattle.canonical_writer.specs.Names.{naming_of}
+use Rattle.canonical_writer.specs.Runs.{lines_of}
+use Rattle.canonical_writer.proofs.Groups.{Writes}
+use Rattle.canonical_writer.proofs.sorted.write_runs.Given as goal
+
+abbrev pub invariant-loop-run : goal.invariant-loop-run
+invariant-loop-run g l = Writes (λ r. r.key.now) (λ r. lines_of (naming_of (g.N.Names.name l.names)) l.terms r.quads.now) l.runs l.run-index l.text.items l.group l.front

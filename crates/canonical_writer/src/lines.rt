@@ -1,0 +1,173 @@
+ghost use Rattle.std.specs.Prelude.{◌≡◌, ◌<◌, ◌≤◌, ◌-◌, ◌++◌, [], ◌∷◌, length, map, sum, take, IfOk, OnOk, OnErr};
+ghost use Rattle.rdf_terms.specs.CanonicalForm.{canonical_line};
+ghost use Rattle.rdf_terms.specs.Document.{statement, term_at, IsInRange};
+ghost use Rattle.rdf_terms.specs.Lists.{joined, sorted};
+ghost use Rattle.canonical_writer.specs.Names.{naming_of, HasNames, IsNamed};
+ghost use Rattle.canonical_writer.specs.Pieces.{pieces};
+ghost use Rattle.canonical_writer.specs.Runs.{line_start};
+
+use crate::line::{push_line, push_start};
+use crate::names::Names;
+use rdf_terms::{NoMemory, Quad, TermTable};
+use std::alloc::Global;
+use std::marker::Model;
+
+/// Canonical lines in one buffer, which can be emptied and filled again.
+#[derive(Drop)]
+pub struct Lines {
+    text: Vec<u8>,
+    lengths: Vec<usize>,
+}
+
+impl Model for Lines {
+    ghost use Rattle.std.specs.Prelude.{◌≡◌, List, length, sum};
+    ghost use Rattle.rdf_terms.specs.Lists.{Text};
+    ghost use Rattle.canonical_writer.specs.Pieces.{pieces};
+
+    ghost Value = { List Text };
+
+    ghost view = { λ l. pieces l.text.items l.lengths.items };
+
+    ghost invariant = { λ l. sum l.lengths.items ≡ length l.text.items };
+}
+
+impl Lines {
+    pub fn new(alloc: Global) -> Self
+        ensures { result ≡ [] }
+    {
+        Lines {
+            text: Vec::new(alloc),
+            lengths: Vec::new(alloc),
+        }
+    }
+
+    /// How many lines there are.
+    pub fn len(&self) -> usize
+        ensures { result ≡ length self.now }
+    {
+        self.lengths.len()
+    }
+
+    /// The lines one after the other, in the order in which they came.
+    pub fn text(&self) -> &[u8]
+        ensures { result.now ≡ joined self.now }
+    {
+        self.text.as_slice()
+    }
+
+    /// Leaves no line, and keeps the memory.
+    pub fn clear(&mut self)
+        ensures { self.new ≡ [] }
+    {
+        self.text.clear();
+        self.lengths.clear();
+    }
+
+    /// Adds the canonical line of a quad.
+    pub fn push<N: Names>(
+        &mut self,
+        terms: &TermTable,
+        quad: Quad,
+        names: &N,
+    ) -> Result<(), NoMemory>
+        requires in_range { IsInRange terms.now quad }
+        requires named { HasNames (N.name names.now) (statement terms.now quad) }
+        ensures { OnOk result (self.new ≡ self.old ++ canonical_line (naming_of (N.name names.now)) (statement terms.now quad) ∷ []) }
+    {
+        let before = self.text.len();
+        push_line(&mut self.text, terms, quad, names)?;
+        note_length(&mut self.text, &mut self.lengths, before)
+    }
+
+    /// Adds the start of a line alone: a subject, and the space behind it.
+    pub(crate) fn push_start<N: Names>(
+        &mut self,
+        terms: &TermTable,
+        subject: u32,
+        names: &N,
+    ) -> Result<(), NoMemory>
+        requires in_range { subject < length terms.now }
+        requires named { IsNamed (N.name names.now) (term_at terms.now subject) }
+        ensures { OnOk result (self.new ≡ self.old ++ line_start (naming_of (N.name names.now)) (term_at terms.now subject) ∷ []) }
+    {
+        let before = self.text.len();
+        push_start(&mut self.text, terms, subject, names)?;
+        note_length(&mut self.text, &mut self.lengths, before)
+    }
+
+    /// The lines in the order in which they came.
+    pub(crate) fn split(&self, alloc: Global) -> Result<Vec<&[u8]>, NoMemory>
+        ensures { IfOk result (λ v. map (λ p. p.now) v.items ≡ self.now) }
+    {
+        cut(alloc, self.text.as_slice(), self.lengths.as_slice())
+    }
+
+    /// The lines in byte order.
+    pub fn sorted(&self, alloc: Global) -> Result<Vec<&[u8]>, NoMemory>
+        ensures { IfOk result (λ v. map (λ p. p.now) v.items ≡ sorted self.now) }
+    {
+        let mut lines = self.split(alloc)?;
+        lines.sort_unstable();
+        Ok(lines)
+    }
+
+    /// Appends the lines in byte order.
+    #[tactic(auto, using(crate::proofs::Pieces::sorted_short))]
+    pub(crate) fn append_sorted(&self, alloc: Global, out: &mut Vec<u8>) -> Result<(), NoMemory>
+        ensures { OnOk result (out.new.items ≡ out.old.items ++ joined (sorted self.now)) }
+    {
+        if self.len() < 2 {
+            out.extend_from_slice(self.text())?;
+            return Ok(());
+        }
+        let lines = self.sorted(alloc)?;
+        append_all(out, lines.as_slice())
+    }
+}
+
+/// Notes how long the text from this place on is. Where there is no memory for that, the text is cut
+/// off again.
+fn note_length(
+    text: &mut Vec<u8>,
+    lengths: &mut Vec<usize>,
+    before: usize,
+) -> Result<(), NoMemory>
+    requires { before ≤ length text.old.items }
+    ensures noted { OnOk result (lengths.new.items ≡ lengths.old.items ++ (length text.old.items - before) ∷ []) }
+    ensures kept { OnOk result (text.new.items ≡ text.old.items) }
+    ensures not_noted { OnErr result (lengths.new.items ≡ lengths.old.items) }
+    ensures cut_off { OnErr result (text.new.items ≡ take before text.old.items) }
+{
+    match lengths.push(text.len() - before) {
+        Ok(()) => Ok(()),
+        Err(_) => {
+            text.truncate(before);
+            Err(NoMemory)
+        }
+    }
+}
+
+/// Cuts a text into pieces of these lengths, which lie one after the other from its start.
+fn cut<'a>(alloc: Global, text: &'a [u8], lengths: &[usize]) -> Result<Vec<&'a [u8]>, NoMemory>
+    requires { sum lengths.now ≤ length text.now }
+    ensures { IfOk result (λ v. map (λ p. p.now) v.items ≡ pieces text.now lengths.now) }
+{
+    let mut parts = Vec::with_capacity(alloc, lengths.len())?;
+    let mut rest = text;
+    for length in lengths {
+        let (piece, behind) = rest.split_at(*length);
+        parts.push(piece)?;
+        rest = behind;
+    }
+    Ok(parts)
+}
+
+/// Appends the texts one after the other.
+fn append_all(out: &mut Vec<u8>, texts: &[&[u8]]) -> Result<(), NoMemory>
+    ensures { OnOk result (out.new.items ≡ out.old.items ++ joined (map (λ t. t.now) texts.now)) }
+{
+    for text in texts {
+        out.extend_from_slice(text)?;
+    }
+    Ok(())
+}

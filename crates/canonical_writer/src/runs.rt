@@ -1,0 +1,97 @@
+ghost use Rattle.std.specs.Prelude.{◌≡◌, ◌==◌, [], length, map, All, IfOk};
+ghost use Rattle.std.specs.List.{prefix_len, flat_map, zip, AllZip};
+ghost use Rattle.std.specs.List.Sorted.{IsPermutation};
+ghost use Rattle.rdf_terms.specs.Document.{statement, IsInRange};
+ghost use Rattle.canonical_writer.specs.Names.{HasNames};
+ghost use Rattle.canonical_writer.specs.Runs.{IsRun, KeysAscend};
+
+use crate::lines::Lines;
+use crate::names::Names;
+use rdf_terms::{NoMemory, Quad, TermTable};
+use std::alloc::Global;
+
+/// Quads of one subject, and the text that their lines begin with: the subject and a space.
+#[derive(Clone, Copy, Debug)]
+pub(crate) struct Run<'a> {
+    pub key: &'a [u8],
+    pub quads: &'a [Quad],
+}
+
+/// How many quads at the front have this subject.
+fn subject_len(quads: &[Quad], subject: u32) -> usize
+    ensures { result ≡ prefix_len (λ q. q.s == subject) quads.now }
+{
+    quads
+        .iter()
+        .take_while(|quad| quad.s == subject)
+        .count()
+}
+
+/// Cuts the quads where one has another subject than the one before it, and writes the key of each
+/// stretch.
+pub(crate) fn cut_at_subjects<'a, N: Names>(
+    alloc: Global,
+    terms: &TermTable,
+    quads: &'a [Quad],
+    names: &N,
+    keys: &mut Lines,
+) -> Result<Vec<&'a [Quad]>, NoMemory>
+    requires none { keys.old ≡ [] }
+    requires in_range { All (IsInRange terms.now) quads.now }
+    requires named { All (λ q. HasNames (N.name names.now) (statement terms.now q)) quads.now }
+    ensures whole { IfOk result (λ v. flat_map (λ p. p.now) v.items ≡ quads.now) }
+    ensures runs { IfOk result (λ v. AllZip (λ k p. IsRun (N.name names.now) terms.now k p.now) keys.new v.items) }
+{
+    let mut stretches = Vec::new(alloc);
+    let mut rest = quads;
+    while let Some(first) = rest.first() {
+        let (stretch, behind) = rest.split_at(subject_len(rest, first.s));
+        keys.push_start(terms, first.s, names)?;
+        stretches.push(stretch)?;
+        rest = behind;
+    }
+    Ok(stretches)
+}
+
+/// Each stretch with its key.
+fn with_keys<'a>(
+    alloc: Global,
+    keys: &[&'a [u8]],
+    stretches: &[&'a [Quad]],
+) -> Result<Vec<Run<'a>>, NoMemory>
+    requires { length keys.now ≡ length stretches.now }
+    ensures { IfOk result (λ v. map (λ r. (r.key.now, r.quads.now)) v.items ≡ zip (map (λ k. k.now) keys.now) (map (λ p. p.now) stretches.now)) }
+{
+    let mut runs = Vec::with_capacity(alloc, stretches.len())?;
+    for place in 0..stretches.len() {
+        runs.push(Run {
+            key: keys[place],
+            quads: stretches[place],
+        })?;
+    }
+    Ok(runs)
+}
+
+/// Puts the runs in the order of their keys.
+fn sort_by_key(runs: &mut Vec<Run<'_>>)
+    ensures permutation { IsPermutation runs.old.items runs.new.items }
+    ensures sorted { KeysAscend (λ r. r.key.now) runs.new.items }
+{
+    runs.sort_unstable_by_key(|run| run.key);
+}
+
+/// The stretches with their keys, in the order of the keys.
+pub(crate) fn sorted_runs<'a>(
+    alloc: Global,
+    keys: &'a Lines,
+    stretches: &[&'a [Quad]],
+) -> Result<Vec<Run<'a>>, NoMemory>
+    requires { length keys.now ≡ length stretches.now }
+    ensures permutation { IfOk result (λ v. IsPermutation (zip keys.now (map (λ p. p.now) stretches.now)) (map (λ r. (r.key.now, r.quads.now)) v.items)) }
+    ensures sorted { IfOk result (λ v. KeysAscend (λ r. r.key.now) v.items) }
+{
+    let parts = keys.split(alloc)?;
+    let mut runs = with_keys(alloc, parts.as_slice(), stretches)?;
+    sort_by_key(&mut runs);
+    Ok(runs)
+}

@@ -1,6 +1,0 @@
-use Rattle.std.proofs.Common.{length, sym, ap, ◌∙◌}
-use Rattle.first_degree.proofs.LineTexts.{length-pieces}
-use Rattle.first_degree.proofs.lines.Lines.len.Goals as goal
-
-pub returns : goal.returns
-returns c = c.len.ensures ∙ (c.self.inside.lengths.ok.0 ∙ (sym (length-pieces c.self.inside.text.items c.self.inside.lengths.items) ∙ ap length c.self.view_is))
