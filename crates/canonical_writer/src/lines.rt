@@ -127,11 +127,7 @@ impl Lines {
 
 /// Notes how long the text from this place on is. Where there is no memory for that, the text is cut
 /// off again.
-fn note_length(
-    text: &mut Vec<u8>,
-    lengths: &mut Vec<usize>,
-    before: usize,
-) -> Result<(), NoMemory>
+fn note_length(text: &mut Vec<u8>, lengths: &mut Vec<usize>, before: usize) -> Result<(), NoMemory>
     requires { before ≤ length text.old.items }
     ensures noted { OnOk result (lengths.new.items ≡ lengths.old.items ++ (length text.old.items - before) ∷ []) }
     ensures kept { OnOk result (text.new.items ≡ text.old.items) }

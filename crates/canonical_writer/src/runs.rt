@@ -21,10 +21,7 @@ pub(crate) struct Run<'a> {
 fn subject_len(quads: &[Quad], subject: u32) -> usize
     ensures { result ≡ prefix_len (λ q. q.s == subject) quads.now }
 {
-    quads
-        .iter()
-        .take_while(|quad| quad.s == subject)
-        .count()
+    quads.iter().take_while(|quad| quad.s == subject).count()
 }
 
 /// Cuts the quads where one has another subject than the one before it, and writes the key of each

@@ -32,12 +32,12 @@ loop-run-preserved g c =
     let keyed : All (λ r. All (λ t. StartsWith t (key r)) (texts r)) runs = λ k d h. lines_begin name terms (key (get_or runs k d)) (get_or runs k d).quads.now (c.requires.runs k d h) in
     let here = c.begins_with.ensures in
     elim c.if-not-begins_with.branch [
-      then-not-begins_with+in_ok-append_sorted w ↦
+      | then-not-begins_with+in_ok-append_sorted w ↦
           run_added key texts runs keyed i _ c.loop-run-test.true now.text.items now.group now.front.now
           (same_writes key texts runs i _ now.text.items _ now.group _ now.front.now (ap (λ v. v.items) w.text-is ∙ w.in_ok-append_sorted.ensures) (w.group-is ∙ w.clear.ensures) (ap (λ b. b.now) w.front-is)
           (group_ended key texts runs keyed i _ c.loop-run-test.true c.loop-run.text.items c.loop-run.group c.loop-run.front.now kept c.requires.sorted (λ s. true≢false (sym (here.1 s) ∙ w.if-not-begins_with.true))))
           _ (subst (StartsWith (key (get_or runs i _))) (sym (ap (λ b. b.now) w.front-is)) (starts_itself _)) c.in_ok-push_lines.ensures
-    | else-not-begins_with w ↦
+      | else-not-begins_with w ↦
           run_added key texts runs keyed i _ c.loop-run-test.true now.text.items now.group now.front.now
           (same_writes key texts runs i _ now.text.items _ now.group _ now.front.now (ap (λ v. v.items) w.text-is) w.group-is (ap (λ b. b.now) w.front-is) kept)
           _ (subst (StartsWith (key (get_or runs i _))) (sym (ap (λ b. b.now) w.front-is)) (here.0 w.if-not-begins_with.false)) c.in_ok-push_lines.ensures

@@ -29,5 +29,5 @@ returns g c =
     subst (λ v. IfOk c.write_runs.result (λ t. t ≡ v))
     (ap (λ rs. joined (sorted (flat_map (λ (r : Run). lines_of ν terms r.quads.now) rs))) c.as_slice-2.ensures.value
     ∙ sorted_lines ν terms is_run (λ (p : Bor (List Quad)). p.now) (λ (r : Run). (r.key.now, r.quads.now)) c.cut_at_subjects.new.keys c.as_slice.result.now c.in_ok-runs.runs.items c.args.quads.now
-        zipped c.in_ok-runs.ensures.permutation (ap (flat_map (λ (p : Bor (List Quad)). p.now)) c.as_slice.ensures.value ∙ c.in_ok-stretches.ensures.whole))
+    zipped c.in_ok-runs.ensures.permutation (ap (flat_map (λ (p : Bor (List Quad)). p.now)) c.as_slice.ensures.value ∙ c.in_ok-stretches.ensures.whole))
     c.write_runs.ensures

@@ -12,6 +12,6 @@ returns g c =
     (λ noted kept.
     ap (λ t. pieces t c.note_length.new.lengths.items) kept
     ∙ line_added c.self.inside.text.items (canonical_line (naming_of (g.N.Names.name c.args.names.now)) (statement c.args.terms.now c.args.quad)) c.push_line.new.out.items
-        c.len-before.result _ c.in_ok-push_line.ensures.ok (c.len-before.ensures ∙ c.self.inside.text.ok.0) refl
-        c.self.inside.lengths.items c.note_length.new.lengths.items c.args.self.now c.self.invariant c.self.view_is noted)
+    c.len-before.result _ c.in_ok-push_line.ensures.ok (c.len-before.ensures ∙ c.self.inside.text.ok.0) refl
+    c.self.inside.lengths.items c.note_length.new.lengths.items c.args.self.now c.self.invariant c.self.view_is noted)
     c.note_length.ensures.noted c.note_length.ensures.kept
