@@ -1,4 +1,4 @@
-use Rattle.std.proofs.Common.{◌≡◌, ◌==◌, ◌≤◌, length, All, refl, sym, subst}
+use Rattle.std.proofs.Common.{◌==◌, ◌≤◌, length, All, refl, sym, subst}
 use Rattle.std.proofs.lemmas.List.Elements.{All-drop}
 use Rattle.std.proofs.lemmas.List.Sums.{prefix_len-le-length}
 use Rattle.rdf_terms.specs.Document.{statement, IsInRange}

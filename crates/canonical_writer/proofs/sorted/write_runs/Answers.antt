@@ -1,4 +1,4 @@
-use Rattle.std.proofs.Common.{◌≡◌, ◌≤◌, List, All, length, get_or, true≢false, refl, sym, ap, ◌∙◌, subst, arith}
+use Rattle.std.proofs.Common.{List, All, get_or, true≢false, sym, ap, ◌∙◌, subst}
 use Rattle.std.specs.Io.{StartsWith}
 use Rattle.rdf_terms.specs.Lists.{Text}
 use Rattle.canonical_writer.specs.Names.{naming_of}
