@@ -9,7 +9,7 @@ use Rattle.rdf_terms.specs.Lists.{Text, joined}
 longer : (a b : List ℕ) → StartsWith b a → length a ≤ length b
 longer a b h = let e : min (length a) (length b) ≡ length a = sym (length-take (length a) b) ∙ ap length h in omega arith
 
-pub starts_append : (a b r : List ℕ) → StartsWith b a → StartsWith (b ++ r) a
+starts_append : (a b r : List ℕ) → StartsWith b a → StartsWith (b ++ r) a
 starts_append a b r h = take-append-le (length a) b r (longer a b h) ∙ h
 
 pub starts_through : (a b c : List ℕ) → StartsWith b a → StartsWith c b → StartsWith c a
