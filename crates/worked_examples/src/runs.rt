@@ -2,6 +2,7 @@
 use outside::{MemShelf, MemSink};
 use rdfc_cli::{Cause, Refusal, Status, run};
 use std::alloc::Global;
+use std::process::Abort;
 use std::test::Fail;
 
 const ROOM: usize = 1000;
@@ -62,6 +63,42 @@ fn outcome_of(alloc: Global, case: &Case<'_>) -> Result<Ended, Fail> {
     Ok(Ended { status, out, notes })
 }
 
+// How a run has to end: its status, what it writes and what it notes.
+#[derive(Clone, Copy)]
+struct Ending<'a> {
+    status: Status,
+    out: &'a str,
+    notes: &'a str,
+}
+
+fn done(out: &str) -> Ending<'_> {
+    Ending {
+        status: Status::Done,
+        out,
+        notes: "",
+    }
+}
+
+fn nothing_written(status: Status, notes: &str) -> Ending<'_> {
+    Ending {
+        status,
+        out: "",
+        notes,
+    }
+}
+
+fn assert_ended(rt: &impl Abort, ended: &Ended, want: Ending<'_>, text: &str) {
+    assert_eq!(rt; ended.status, want.status, "{text}");
+    assert_eq!(rt; ended.out.bytes(), want.out.as_bytes(), "{text}");
+    assert_eq!(rt; ended.notes.bytes(), want.notes.as_bytes(), "{text}");
+}
+
+fn expect(rt: &impl Abort, alloc: Global, case: &Case<'_>, want: Ending<'_>) -> Result<(), Fail> {
+    let ended = outcome_of(alloc, case)?;
+    assert_ended(rt, &ended, want, case.text);
+    Ok(())
+}
+
 fn canon(text: &str) -> Case<'_> {
     Case {
         words: &["canon", "f"],
@@ -106,10 +143,7 @@ fn canon_writes_each_line_once_and_in_order(rt: HostRuntime) -> Result<(), Fail>
         (DIFFERENT, NAMED),
     ];
     for (text, want) in cases {
-        let ended = outcome_of(rt.alloc(), &canon(text))?;
-        assert_eq!(rt; ended.status, Status::Done, "{text}");
-        assert_eq!(rt; ended.out.bytes(), want.as_bytes(), "{text}");
-        assert_eq!(rt; ended.notes.bytes(), b"".as_slice(), "{text}");
+        expect(&rt, rt.alloc(), &canon(text), done(want))?;
     }
     Ok(())
 }
@@ -120,10 +154,7 @@ fn hash_writes_the_digest_of_the_canonical_text(rt: HostRuntime) -> Result<(), F
         words: &["hash", "f"],
         ..canon("")
     };
-    let ended = outcome_of(rt.alloc(), &case)?;
-    assert_eq!(rt; ended.status, Status::Done);
-    assert_eq!(rt; ended.out.bytes(), HASH_OF_NOTHING.as_bytes());
-    Ok(())
+    expect(&rt, rt.alloc(), &case, done(HASH_OF_NOTHING))
 }
 
 #[test]
@@ -180,10 +211,7 @@ fn what_is_not_done_is_noted_and_nothing_is_written(rt: HostRuntime) -> Result<(
             out: &[],
             notes: &[],
         };
-        let ended = outcome_of(rt.alloc(), &case)?;
-        assert_eq!(rt; ended.status, status, "{note}");
-        assert_eq!(rt; ended.out.bytes(), b"".as_slice(), "{note}");
-        assert_eq!(rt; ended.notes.bytes(), note.as_bytes());
+        expect(&rt, rt.alloc(), &case, nothing_written(status, note))?;
     }
     Ok(())
 }
@@ -191,13 +219,13 @@ fn what_is_not_done_is_noted_and_nothing_is_written(rt: HostRuntime) -> Result<(
 #[test]
 fn a_read_that_fails_is_never_the_end_of_the_file(rt: HostRuntime) -> Result<(), Fail> {
     // Twelve bytes in pieces of seven: the start, two pieces, and the call that finds the end.
+    let want = nothing_written(Status::ReadFault { file: 0 }, "rdfc: f: read failed\n");
     for call in 0..4 {
         let case = Case {
             shelf: &[call],
             ..canon("# no quad\n\n\n")
         };
-        let ended = outcome_of(rt.alloc(), &case)?;
-        assert_eq!(rt; ended.status, Status::ReadFault { file: 0 }, "{call}");
+        expect(&rt, rt.alloc(), &case, want)?;
     }
     Ok(())
 }
@@ -208,11 +236,12 @@ fn a_write_that_fails_leaves_a_front_of_the_text(rt: HostRuntime) -> Result<(), 
         out: &[1],
         ..canon("<http://e/a> <http://e/p> <http://e/o> .\n")
     };
-    let ended = outcome_of(rt.alloc(), &case)?;
-    assert_eq!(rt; ended.status, Status::WriteFault);
-    assert_eq!(rt; ended.out.bytes(), b"<http://e/".as_slice());
-    assert_eq!(rt; ended.notes.bytes(), b"rdfc: write failed\n".as_slice());
-    Ok(())
+    let want = Ending {
+        status: Status::WriteFault,
+        out: "<http://e/",
+        notes: "rdfc: write failed\n",
+    };
+    expect(&rt, rt.alloc(), &case, want)
 }
 
 #[test]
@@ -221,24 +250,21 @@ fn a_note_that_fails_changes_no_status(rt: HostRuntime) -> Result<(), Fail> {
         notes: &[1],
         ..canon("no line")
     };
-    let ended = outcome_of(rt.alloc(), &case)?;
-    assert_eq!(rt; ended.status, refused(Cause::BadLine { line: 1 }));
-    assert_eq!(rt; ended.notes.bytes(), b"rdfc: ".as_slice());
-    Ok(())
+    let want = nothing_written(refused(Cause::BadLine { line: 1 }), "rdfc: ");
+    expect(&rt, rt.alloc(), &case, want)
 }
 
-// Where an allocation is refused, the run ends with `NoMemory` and an untouched output.
+// Where an allocation of the run is refused, it ends with `NoMemory` and an untouched output.
+// `tools/fail-alloc --test` refuses each in turn, and reads the status that is printed.
 #[test]
 fn want_of_memory_writes_nothing(rt: HostRuntime) -> Result<(), Fail> {
-    let ended = outcome_of(rt.alloc(), &canon("_:x <e:p> \"v\" _:x ."))?;
-    if ended.status == Status::NoMemory {
-        assert_eq!(rt; ended.out.bytes(), b"".as_slice());
-    } else {
-        assert_eq!(rt; ended.status, Status::Done);
-        assert_eq!(rt;
-            ended.out.bytes(),
-            b"_:c14n0 <e:p> \"v\" _:c14n0 .\n".as_slice()
-        );
-    }
+    let text = "_:x <e:p> \"v\" _:x .";
+    let ended = outcome_of(rt.alloc(), &canon(text))?;
+    let want = match ended.status {
+        Status::NoMemory => nothing_written(Status::NoMemory, "rdfc: out of memory\n"),
+        _ => done("_:c14n0 <e:p> \"v\" _:c14n0 .\n"),
+    };
+    assert_ended(&rt, &ended, want, text);
+    println!(rt; "{:?}", ended.status)?;
     Ok(())
 }
