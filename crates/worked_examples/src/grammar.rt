@@ -3,17 +3,46 @@
 use nquads_reader::{ReadFault, read_nquads};
 use rdf_terms::{Label, LiteralKind, Parsed, Term};
 use std::alloc::Global;
+use std::process::Abort;
 use std::test::Fail;
 
-// Why the bytes are not read, if they are not.
-fn fault_of(alloc: Global, bytes: &[u8]) -> Result<Option<ReadFault>, Fail> {
+// Tests ask the functions below and hold no document themselves: an assertion where one is at hand
+// costs the prover minutes.
+fn read(alloc: Global, bytes: &[u8]) -> Result<Result<Parsed, ReadFault>, Fail> {
     if bytes.len() > 1000 {
         return Err(Fail::from("a text is too long for this table"));
     }
-    match read_nquads(alloc, bytes) {
+    Ok(read_nquads(alloc, bytes))
+}
+
+// Why the bytes are not read, if they are not.
+fn fault_of(alloc: Global, bytes: &[u8]) -> Result<Option<ReadFault>, Fail> {
+    match read(alloc, bytes)? {
         Ok(_) => Ok(None),
         Err(fault) => Ok(Some(fault)),
     }
+}
+
+fn expect(
+    rt: &impl Abort,
+    alloc: Global,
+    bytes: &[u8],
+    wanted: Option<ReadFault>,
+    shown: &str,
+) -> Result<(), Fail> {
+    assert_eq!(rt; fault_of(alloc, bytes)?, wanted, "{shown:?}");
+    Ok(())
+}
+
+fn expect_each(
+    rt: &impl Abort,
+    alloc: Global,
+    table: &[(&str, Option<ReadFault>)],
+) -> Result<(), Fail> {
+    for (text, wanted) in table {
+        expect(rt, alloc, text.as_bytes(), *wanted, text)?;
+    }
+    Ok(())
 }
 
 fn bad(line: u64) -> Option<ReadFault> {
@@ -46,10 +75,7 @@ fn lines_in_and_outside_the_grammar(rt: HostRuntime) -> Result<(), Fail> {
         ("\u{feff}<e:s> <e:p> <e:o> .", bad(1)),
         ("# \0\n<e:s> <e:p> <e:o> .", None),
     ];
-    for (text, wanted) in table {
-        assert_eq!(rt; fault_of(rt.alloc(), text.as_bytes())?, wanted, "{text:?}");
-    }
-    Ok(())
+    expect_each(&rt, rt.alloc(), &table)
 }
 
 #[test]
@@ -67,10 +93,7 @@ fn escapes_name_characters(rt: HostRuntime) -> Result<(), Fail> {
         ("<e:s> <e:p> \"\\t\\b\\n\\r\\f\\\"\\'\\\\\" .", None),
         ("<e:s> <e:p> \"a\nb\" .", bad(1)),
     ];
-    for (text, wanted) in table {
-        assert_eq!(rt; fault_of(rt.alloc(), text.as_bytes())?, wanted, "{text:?}");
-    }
-    Ok(())
+    expect_each(&rt, rt.alloc(), &table)
 }
 
 #[test]
@@ -91,16 +114,13 @@ fn labels_tags_and_suffixes(rt: HostRuntime) -> Result<(), Fail> {
         ("<e:s> <e:p> \"x\"^^_:t .", bad(1)),
         ("<e:s> <e:p> \"x\"^^<t> .", relative(1)),
     ];
-    for (text, wanted) in table {
-        assert_eq!(rt; fault_of(rt.alloc(), text.as_bytes())?, wanted, "{text:?}");
-    }
-    Ok(())
+    expect_each(&rt, rt.alloc(), &table)
 }
 
 #[test]
 fn the_first_faulty_line_is_named(rt: HostRuntime) -> Result<(), Fail> {
-    let some = "<e:s> <e:p> <e:o> .";
     let table = [
+        ("<e:s> <e:p> <e:o> .", None),
         (
             "<e:s> <e:p> <e:o> .\n<a> <e:p> <e:o> .\n<e:s> <e:p> <e:o>",
             relative(2),
@@ -116,16 +136,14 @@ fn the_first_faulty_line_is_named(rt: HostRuntime) -> Result<(), Fail> {
         ("#\n\r<a> <e:p> <e:o> .", relative(3)),
         ("<e:s> <e:p> <e:o> .\r", None),
     ];
-    for (text, wanted) in table {
-        assert_eq!(rt; fault_of(rt.alloc(), text.as_bytes())?, wanted, "{text:?}");
+    let bytes: [(&[u8], Option<ReadFault>, &str); 2] = [
+        (b"#\n# \xff\nx", not_utf8(2), "a comment that is not UTF-8"),
+        (b"x\n# \xff\n", bad(1), "one behind a faulty line"),
+    ];
+    for (bytes, wanted, shown) in bytes {
+        expect(&rt, rt.alloc(), bytes, wanted, shown)?;
     }
-    assert_eq!(rt; fault_of(rt.alloc(), some.as_bytes())?, None);
-    assert_eq!(rt;
-        fault_of(rt.alloc(), b"#\n# \xff\nx".as_slice())?,
-        not_utf8(2)
-    );
-    assert_eq!(rt; fault_of(rt.alloc(), b"x\n# \xff\n".as_slice())?, bad(1));
-    Ok(())
+    expect_each(&rt, rt.alloc(), &table)
 }
 
 // The lexical form of the object of the first quad, and whether it has a language tag.
@@ -143,34 +161,57 @@ fn first_literal(parsed: &Parsed) -> Option<(&str, bool)> {
     }
 }
 
+// Whether the bytes are read, and the first object is this literal.
+fn has_literal(alloc: Global, bytes: &[u8], literal: (&str, bool)) -> Result<bool, Fail> {
+    match read(alloc, bytes)? {
+        Ok(parsed) => match first_literal(&parsed) {
+            Some((lexical, tagged)) => Ok(lexical == literal.0 && tagged == literal.1),
+            None => Ok(false),
+        },
+        Err(_) => Ok(false),
+    }
+}
+
 #[test]
 fn strings_are_read_by_their_characters(rt: HostRuntime) -> Result<(), Fail> {
-    let text = "<e:s> <e:p> \"a\\tb\\u0041\\u007f\\u000B\\\"\" .\n";
-    let parsed = read_nquads(rt.alloc(), text.as_bytes())
-        .ok()
-        .ok_or("not read")?;
-    assert_eq!(rt; first_literal(&parsed), Some(("a\tbA\u{7f}\u{b}\"", false)));
-    let tagged = read_nquads(rt.alloc(), b"<e:s> <e:p> \"x\" @en .".as_slice())
-        .ok()
-        .ok_or("not read")?;
-    assert_eq!(rt; first_literal(&tagged), Some(("x", true)));
+    let table = [
+        (
+            "<e:s> <e:p> \"a\\tb\\u0041\\u007f\\u000B\\\"\" .\n",
+            ("a\tbA\u{7f}\u{b}\"", false),
+        ),
+        ("<e:s> <e:p> \"x\" @en .", ("x", true)),
+    ];
+    for (text, literal) in table {
+        assert!(rt;
+            has_literal(rt.alloc(), text.as_bytes(), literal)?,
+            "{text}"
+        );
+    }
     Ok(())
+}
+
+fn are_named(labels: &[Label], names: &[&str]) -> bool {
+    for (label, name) in labels.iter().zip(names.iter()) {
+        match label {
+            Label::Named(text) if text.as_str() == *name => {}
+            _ => return false,
+        }
+    }
+    labels.len() == names.len()
+}
+
+// Whether the bytes are read, to so many quads and to nodes of these names.
+fn has_nodes(alloc: Global, bytes: &[u8], quads: usize, names: &[&str]) -> Result<bool, Fail> {
+    match read(alloc, bytes)? {
+        Ok(parsed) => Ok(parsed.quads().len() == quads && are_named(parsed.labels(), names)),
+        Err(_) => Ok(false),
+    }
 }
 
 #[test]
 fn nodes_are_numbered_by_first_mention(rt: HostRuntime) -> Result<(), Fail> {
     let text = "_:a:b <e:p> _:a.\n_:a <e:p> _:b _:c .\n_:a:b <e:p> _:a .\n";
-    let parsed = read_nquads(rt.alloc(), text.as_bytes())
-        .ok()
-        .ok_or("not read")?;
-    assert_eq!(rt; parsed.quads().len(), 2);
-    let mut labels = Vec::new(rt.alloc());
-    for label in parsed.labels() {
-        match label {
-            Label::Named(name) => labels.push(name.as_str())?,
-            Label::Anonymous(_) => return Err(Fail::from("a label has no name")),
-        }
-    }
-    assert_eq!(rt; labels.as_slice(), ["a:b", "a", "b", "c"].as_slice());
+    let names = ["a:b", "a", "b", "c"];
+    assert!(rt; has_nodes(rt.alloc(), text.as_bytes(), 2, &names)?);
     Ok(())
 }
