@@ -1,3 +1,4 @@
+pub mod StoredText
 pub mod Lists
 pub mod Numeral
 pub mod Terms

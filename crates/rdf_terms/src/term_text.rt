@@ -1,39 +1,58 @@
-ghost use Rattle.std.specs.Prelude.{◌≡◌, ℕ, List, IfOk, string_bytes};
+ghost use Rattle.std.specs.Prelude.{◌≡◌, IfOk};
 ghost use Rattle.std.specs.Str.{bytes_eq};
 ghost use Rattle.std.specs.Hash as fed;
 ghost use Rattle.std.specs.Cmp.Rules.{comparing, hashing};
 ghost use Rattle.std.proofs.Common.{rules};
 
 use crate::NoMemory;
+use arrayvec::ArrayString;
 use std::alloc::Global;
 use std::hash::{Hash, Hasher};
 use std::marker::Model;
 
-/// The text of an IRI, a lexical form, a language tag or a label, in UTF-8.
+// How many bytes of a text lie in the value itself: three words, as many as a `String` of its own takes.
+const INLINE_LEN: usize = 24;
+
+#[derive(Debug, Drop)]
+enum Stored {
+    Inline(ArrayString<INLINE_LEN>),
+    Apart(String),
+}
+
+/// The text of an IRI, a lexical form, a language tag or a label, in UTF-8. A short one takes no
+/// memory of its own.
 #[derive(Debug, Drop)]
 pub struct TermText {
-    text: String,
+    stored: Stored,
 }
 
 impl Model for TermText {
+    ghost use Rattle.std.specs.Prelude.{ℕ, List};
+    ghost use Rattle.rdf_terms.specs.StoredText.{stored_bytes};
+
     ghost Value = { List ℕ };
 
-    ghost view = { λ t. string_bytes t.text };
+    ghost view = { λ t. stored_bytes t.stored };
 }
 
 impl TermText {
     pub fn copy(alloc: Global, text: &str) -> Result<Self, NoMemory>
         ensures { IfOk result (λ t. t ≡ text.now) }
     {
-        Ok(TermText {
-            text: String::from_str(alloc, text)?,
-        })
+        let stored = match ArrayString::from(text) {
+            Ok(inline) => Stored::Inline(inline),
+            Err(_) => Stored::Apart(String::from_str(alloc, text)?),
+        };
+        Ok(TermText { stored })
     }
 
     pub fn as_str(&self) -> &str
         ensures { result.now ≡ self.now }
     {
-        self.text.as_str()
+        match &self.stored {
+            Stored::Inline(text) => text.as_str(),
+            Stored::Apart(text) => text.as_str(),
+        }
     }
 }
 

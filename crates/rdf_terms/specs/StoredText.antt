@@ -1,0 +1,8 @@
+-- The bytes of a text, wherever they lie.
+use Rattle.std.specs.Prelude.{ℕ, List, string_bytes}
+use Rattle.rdf_terms.specs.declared.term_text.Stored.{Stored}
+use Rattle.rdf_terms.specs.declared.term_text.Stored.TheVariants.{Inline, Apart}
+
+abbrev pub stored_bytes : Stored → List ℕ
+stored_bytes (Inline text) = text.bytes
+stored_bytes (Apart text) = string_bytes text
