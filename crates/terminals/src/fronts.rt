@@ -1,7 +1,7 @@
 ghost use Rattle.std.specs.Prelude.{◌≡◌, ◌≢◌, ◌<◌, ℕ, List, [], ◌∷◌, ◌++◌, encode_utf8, IfSome, IfNone};
 
-// What follows the mark at the front.
-pub(crate) fn after(text: &str, mark: char) -> Option<&str>
+/// What follows the mark at the front, where it stands there.
+pub fn after(text: &str, mark: char) -> Option<&str>
     requires { mark < 128 }
     ensures found { IfSome result (λ rest. text.now ≡ mark ∷ rest.now) }
     ensures none { IfNone result ((rest : List ℕ) → text.now ≢ mark ∷ rest) }
@@ -9,8 +9,8 @@ pub(crate) fn after(text: &str, mark: char) -> Option<&str>
     text.strip_prefix(mark)
 }
 
-// The first character, and what follows it.
-pub(crate) fn first_char(text: &str) -> Option<(char, &str)>
+/// The first character, and what follows it.
+pub fn first_char(text: &str) -> Option<(char, &str)>
     ensures found { IfSome result (λ x. text.now ≡ encode_utf8 x.0 ++ x.1.now) }
     ensures none { IfNone result (text.now ≡ []) }
 {

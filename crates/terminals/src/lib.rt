@@ -3,6 +3,7 @@
 
 pub use bodies::{Body, Quote};
 pub use delimited::{iriref, short_string};
+pub use fronts::{after, first_char};
 pub use labels::{Grammar, blank_node_label};
 pub use runs::{Spelling, run};
 pub use tags::langtag;
