@@ -21,15 +21,15 @@ use Rattle.terminals.proofs.Marks.{encodes_ascii_front}
 
 -- ---- a front that passes a test
 
-abbrev Passing : (ℕ → Bool) → List ℕ → Type 0
+abbrev pub Passing : (ℕ → Bool) → List ℕ → Type 0
 Passing p xs = All (λ c. p c ≡ true) xs
 
-passing_front : (p : ℕ → Bool) (xs : List ℕ) → Passing p (take (prefix_len p xs) xs)
+pub passing_front : (p : ℕ → Bool) (xs : List ℕ) → Passing p (take (prefix_len p xs) xs)
 passing_front p xs = λ k d l.
     let below : k < prefix_len p xs = omega (arith, length-prefix_len p xs) in
     subst (λ c. p c ≡ true) (sym (get_or-take (prefix_len p xs) xs k d below)) (prefix_len_passes p xs k d below)
 
-passing_stops : (p : ℕ → Bool) (xs : List ℕ) (c : ℕ) (more : List ℕ) → drop (prefix_len p xs) xs ≡ c ∷ more → p c ≡ false
+pub passing_stops : (p : ℕ → Bool) (xs : List ℕ) (c : ℕ) (more : List ℕ) → drop (prefix_len p xs) xs ≡ c ∷ more → p c ≡ false
 passing_stops p xs c more e =
     let here : get_or xs (prefix_len p xs) 0 ≡ c = ap (λ k. get_or xs k 0) (sym (add-zero (prefix_len p xs))) ∙ sym (get_or-drop (prefix_len p xs) xs 0 0) ∙ ap (λ l. get_or l 0 0) e in
     let within : prefix_len p xs < length xs = omega (arith, ap length e, length-drop (prefix_len p xs) xs) in
@@ -62,7 +62,7 @@ pub utf8_behind_mark : (text rest : List ℕ) (mark : ℕ) → mark < 128 → te
 utf8_behind_mark text rest mark ascii e utf8 = IsUtf8-past_char text rest mark utf8 (e ∙ ap (λ f. f ++ rest) (sym (encode_ascii mark ascii)))
 
 -- a text may be cut behind ASCII
-cut_behind_ascii : (text : List ℕ) (n : ℕ) → IsUtf8 text → n ≤ length text → IsAscii (take n text) → IsCharBoundary text n
+pub cut_behind_ascii : (text : List ℕ) (n : ℕ) → IsUtf8 text → n ≤ length text → IsAscii (take n text) → IsCharBoundary text n
 cut_behind_ascii text n utf8 within ascii = IsCharBoundary-from_take text n utf8 within (IsUtf8-from_ascii (take n text) ascii)
 
 pub cut_behind_letters : (text : List ℕ) (n : ℕ) → IsUtf8 text → n ≡ prefix_len is_ascii_alphabetic text → n ≤ length text → IsCharBoundary text n
