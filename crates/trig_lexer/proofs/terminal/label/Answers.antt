@@ -1,0 +1,12 @@
+use Rattle.terminals.specs.Terminals.{BlankNodeLabel}
+use Rattle.terminals.specs.declared.labels.Grammar.TheVariants.{TriG}
+use Rattle.terminals.proofs.Outcomes.{IfNone_since}
+use Rattle.trig_lexer.specs.declared.kind.Kind.TheVariants.{BlankLabel}
+use Rattle.trig_lexer.proofs.Longest.{only_found, only_none}
+use Rattle.trig_lexer.proofs.terminal.label.Goals as goal
+
+pub returns-in_err-rest-clause-none : goal.returns-in_err-rest-clause-none
+returns-in_err-rest-clause-none c = IfNone_since _ _ (only_none BlankLabel (BlankNodeLabel TriG) c.args.text.now c.in_err-rest.ensures.none)
+
+pub returns-clause-found : goal.returns-clause-found
+returns-clause-found c = only_found BlankLabel (BlankNodeLabel TriG) c.args.text.now _ _ c.in_ok-rest.ensures.found

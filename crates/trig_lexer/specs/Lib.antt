@@ -1,0 +1,10 @@
+pub mod Longest
+pub mod Longer
+pub mod Fronts
+pub mod WhiteSpace
+pub mod Words
+pub mod Numbers
+pub mod Strings
+pub mod Names
+pub mod Tokens
+pub mod Groups
