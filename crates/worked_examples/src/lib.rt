@@ -17,3 +17,5 @@ mod issuers;
 mod references;
 #[cfg(test)]
 mod runs;
+#[cfg(test)]
+mod tokens;
