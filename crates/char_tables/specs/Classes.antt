@@ -1,4 +1,4 @@
--- The classes of characters in the grammars of RDF 1.1 N-Quads (section 4) and RDF 1.1 TriG (section 6.5), each under the name that it has there.
+-- The classes of characters in the grammars of RDF 1.1 N-Quads (section 4) and RDF 1.1 TriG (section 4.5), each under the name that it has there.
 use Rattle.std.specs.Prelude.{[], ◌∷◌, ◌++◌}
 use Rattle.char_tables.specs.Rows.{Rows}
 

@@ -48,14 +48,14 @@ pub fn is_pn_u_nq(c: char) -> bool
     is_member!(c, 'A'..='Z' | 'a'..='z' | ':' | '_', BASE)
 }
 
-/// PN_CHARS_U of TriG, which has no `:` (RDF 1.1 TriG, section 6.5).
+/// PN_CHARS_U of TriG, which has no `:` (RDF 1.1 TriG, section 4.5).
 pub fn is_pn_u_ttl(c: char) -> bool
     ensures { result ≡ is_in pn_chars_u_trig c }
 {
     is_member!(c, 'A'..='Z' | 'a'..='z' | '_', BASE)
 }
 
-/// PN_CHARS of TriG (RDF 1.1 TriG, section 6.5). That of N-Quads is this class and `:`.
+/// PN_CHARS of TriG (RDF 1.1 TriG, section 4.5). That of N-Quads is this class and `:`.
 pub fn is_pn(c: char) -> bool
     ensures { result ≡ is_in pn_chars c }
 {

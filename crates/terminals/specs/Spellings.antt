@@ -1,4 +1,4 @@
--- How the characters between the marks of an IRI or a string are spelled (RDF 1.1 N-Quads, section 4; RDF 1.1 TriG, section 6.5).
+-- How the characters between the marks of an IRI or a string are spelled (RDF 1.1 N-Quads, section 4; RDF 1.1 TriG, section 4.5).
 use Rattle.std.specs.Prelude.{◌≡◌, ℕ, Bool, true, false, not, ◌||◌, ◌==◌, ◌⊎◌, [], ◌∷◌, ◌++◌, encode_utf8_all}
 use Rattle.std.specs.Char.{IsScalar}
 use Rattle.rdf_terms.specs.Lists.{Text}

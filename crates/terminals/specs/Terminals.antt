@@ -1,4 +1,4 @@
--- The terminals that N-Quads and TriG share (RDF 1.1 N-Quads, section 4; RDF 1.1 TriG, section 6.5).
+-- The terminals that N-Quads and TriG share (RDF 1.1 N-Quads, section 4; RDF 1.1 TriG, section 4.5).
 use Rattle.std.specs.Prelude.{◌≡◌, ◌≤◌, ℕ, Bool, true, false, ◌||◌, ◌==◌, ◌⊎◌, List, [], ◌∷◌, ◌++◌, All, length, encode_utf8_all}
 use Rattle.std.specs.Char.{is_ascii_digit, is_ascii_alphanumeric}
 use Rattle.rdf_terms.specs.Lists.{Text}
