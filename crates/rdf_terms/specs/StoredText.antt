@@ -4,5 +4,5 @@ use Rattle.rdf_terms.specs.declared.term_text.Stored.{Stored}
 use Rattle.rdf_terms.specs.declared.term_text.Stored.TheVariants.{Inline, Apart}
 
 abbrev pub stored_bytes : Stored → List ℕ
-stored_bytes (Inline text) = text.bytes
+stored_bytes (Inline text) = text
 stored_bytes (Apart text) = string_bytes text

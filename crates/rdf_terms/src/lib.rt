@@ -13,6 +13,7 @@ pub use term_text::TermText;
 mod bytes;
 mod draft;
 mod finish;
+mod inline_text;
 mod memory;
 mod parsed;
 mod table;

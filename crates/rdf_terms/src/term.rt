@@ -10,6 +10,9 @@ pub enum Term {
     Literal(Literal),
 }
 
+// A look-up of a term waits for its entry of the table, so an entry touches few lines of the cache.
+const _: () = prove!(size_of::<Term>() == 80);
+
 /// A literal (RDF 1.1 Concepts, section 3.3).
 #[derive(Debug, PartialEq, Eq, Hash, Drop)]
 pub struct Literal {

@@ -135,6 +135,7 @@ impl LabelRef<'_> {
 }
 
 impl LiteralKindRef<'_> {
+    #[inline]
     fn is(&self, kind: &LiteralKind) -> bool
         ensures { result ≡ eq_kind.it (kind_of self.now) kind.now }
     {
@@ -147,6 +148,7 @@ impl LiteralKindRef<'_> {
 }
 
 impl LiteralRef<'_> {
+    #[inline]
     fn is(&self, literal: &Literal) -> bool
         ensures { result ≡ eq_literal.it (literal_of self.now) literal.now }
     {
@@ -161,6 +163,7 @@ impl Equivalent<Term> for TermRef<'_> {
 
     ghost respects_eq = { λ q. term_law.congr (term_of q) };
 
+    #[inline]
     fn equivalent(&self, key: &Term) -> bool {
         match (self, key) {
             (TermRef::Iri(iri), Term::Iri(known)) => *iri == known.as_str(),

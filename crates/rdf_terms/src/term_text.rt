@@ -5,17 +5,14 @@ ghost use Rattle.std.specs.Cmp.Rules.{comparing, hashing};
 ghost use Rattle.std.proofs.Common.{rules};
 
 use crate::NoMemory;
-use arrayvec::ArrayString;
+use crate::inline_text::InlineText;
 use std::alloc::Global;
 use std::hash::{Hash, Hasher};
 use std::marker::Model;
 
-// How many bytes of a text lie in the value itself: three words, as many as a `String` of its own takes.
-const INLINE_LEN: usize = 24;
-
 #[derive(Debug, Drop)]
 enum Stored {
-    Inline(ArrayString<INLINE_LEN>),
+    Inline(InlineText),
     Apart(String),
 }
 
@@ -25,6 +22,9 @@ enum Stored {
 pub struct TermText {
     stored: Stored,
 }
+
+// Half of a line of the cache, so that a look at a term's text touches few lines.
+const _: () = prove!(size_of::<TermText>() == 32);
 
 impl Model for TermText {
     ghost use Rattle.std.specs.Prelude.{ℕ, List};
@@ -39,13 +39,14 @@ impl TermText {
     pub fn copy(alloc: Global, text: &str) -> Result<Self, NoMemory>
         ensures { IfOk result (λ t. t ≡ text.now) }
     {
-        let stored = match ArrayString::from(text) {
-            Ok(inline) => Stored::Inline(inline),
-            Err(_) => Stored::Apart(String::from_str(alloc, text)?),
+        let stored = match InlineText::copy(text) {
+            Some(inline) => Stored::Inline(inline),
+            None => Stored::Apart(String::from_str(alloc, text)?),
         };
         Ok(TermText { stored })
     }
 
+    #[inline]
     pub fn as_str(&self) -> &str
         ensures { result.now ≡ self.now }
     {
