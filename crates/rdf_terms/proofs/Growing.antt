@@ -82,6 +82,7 @@ named terms q s p o g a b c e = λ i. record {
   graph_name = e i;
 }
 
+-- subject, object and predicate are added in this order, and behind them the graph name
 module _ (t u v w : List Term) (a b c : Term) (x y z : ℕ) (p : Interns t u a x) (q : Interns u v b y) (r : Interns v w c z) where
   uv : Extends u v
   uv = Extends-interns u v b y q
@@ -120,22 +121,22 @@ module _ (t u v w : List Term) (a b c : Term) (x y z : ℕ) (p : Interns t u a x
       let wv : w ≡ v = Interns-known v w c z r (subst (In c) (sym (vu ∙ ut)) k) in
       wv ∙ vu ∙ ut
 
-  wider : (g : Option Term) (n : Term) → In n t ⊎ ((n ≡ a) ⊎ ((n ≡ b) ⊎ (n ≡ c))) → In n t ⊎ IsTermOf n (record { subject = a; predicate = b; object = c; graph_name = g })
+  wider : (g : Option Term) (n : Term) → In n t ⊎ ((n ≡ a) ⊎ ((n ≡ b) ⊎ (n ≡ c))) → In n t ⊎ IsTermOf n (record { subject = a; predicate = c; object = b; graph_name = g })
   wider g n (inl i) = inl i
   wider g n (inr (inl e)) = inr (inl e)
-  wider g n (inr (inr (inl e))) = inr (inr (inl e))
-  wider g n (inr (inr (inr e))) = inr (inr (inr (inl e)))
+  wider g n (inr (inr (inl e))) = inr (inr (inr (inl e)))
+  wider g n (inr (inr (inr e))) = inr (inr (inl e))
 
   bound_three : length w ≤ length t + 3
   bound_three = omega (arith, Interns-bound t u a x p, Interns-bound u v b y q, Interns-bound v w c z r)
 
-  pub Numbers-three : Numbers t w (record { subject = a; predicate = b; object = c; graph_name = None }) (record { s = x; p = y; o = z; g = None })
+  pub Numbers-three : Numbers t w (record { subject = a; predicate = c; object = b; graph_name = None }) (record { s = x; p = z; o = y; g = None })
   Numbers-three = record {
-    in_range = record { s = slice_get_within w x a at_a; p = slice_get_within w y b at_b; o = slice_get_within w z c r.at; g = tt };
-    statement_is = named w (record { s = x; p = y; o = z; g = None }) a b c None at_a at_b r.at refl;
+    in_range = record { s = slice_get_within w x a at_a; p = slice_get_within w z c r.at; o = slice_get_within w y b at_b; g = tt };
+    statement_is = named w (record { s = x; p = z; o = y; g = None }) a c b None at_a r.at at_b refl;
     bound = omega (arith, bound_three);
     more = λ n h. wider None n (more_three n h);
-    known = λ k. known_three (k a (inl refl)) (k b (inr (inl refl))) (k c (inr (inr (inl refl))));
+    known = λ k. known_three (k a (inl refl)) (k b (inr (inr (inl refl)))) (k c (inr (inl refl)));
   }
 
   module _ (k : List Term) (d : Term) (n : ℕ) (l : Interns w k d n) where
@@ -145,16 +146,16 @@ module _ (t u v w : List Term) (a b c : Term) (x y z : ℕ) (p : Interns t u a x
     pub Extends-four : Extends t k
     Extends-four = extends-trans t w k Extends-three wk
 
-    pub Numbers-four : Numbers t k (record { subject = a; predicate = b; object = c; graph_name = Some d }) (record { s = x; p = y; o = z; g = Some n })
+    pub Numbers-four : Numbers t k (record { subject = a; predicate = c; object = b; graph_name = Some d }) (record { s = x; p = z; o = y; g = Some n })
     Numbers-four =
         let ka = kept w k x a wk at_a in
         let kb = kept w k y b wk at_b in
         let kc = kept w k z c wk r.at in
         record {
-          in_range = record { s = slice_get_within k x a ka; p = slice_get_within k y b kb; o = slice_get_within k z c kc; g = slice_get_within k n d l.at };
-          statement_is = named k (record { s = x; p = y; o = z; g = Some n }) a b c (Some d) ka kb kc (ap Some (get_or_from_slice_get k n d (Blank 0) l.at));
+          in_range = record { s = slice_get_within k x a ka; p = slice_get_within k z c kc; o = slice_get_within k y b kb; g = slice_get_within k n d l.at };
+          statement_is = named k (record { s = x; p = z; o = y; g = Some n }) a c b (Some d) ka kc kb (ap Some (get_or_from_slice_get k n d (Blank 0) l.at));
           bound = omega (arith, bound_three, Interns-bound w k d n l);
           more = λ m h. elim (Interns-more w k d n l m h) [ inl i ↦ wider (Some d) m (more_three m i) | inr e ↦ inr (inr (inr (inr (ap Some e)))) ];
-          known = λ f. let wt : w ≡ t = known_three (f a (inl refl)) (f b (inr (inl refl))) (f c (inr (inr (inl refl)))) in
+          known = λ f. let wt : w ≡ t = known_three (f a (inl refl)) (f b (inr (inr (inl refl)))) (f c (inr (inl refl))) in
               Interns-known w k d n l (subst (In d) (sym wt) (f d (inr (inr (inr refl))))) ∙ wt;
         }

@@ -41,9 +41,10 @@ fn number_terms(
     ensures extends { Extends terms.old terms.new }
     ensures distinct { AreDistinct terms.new }
 {
+    // The predicate, most often in the cache, is looked up while the object's entry is fetched.
     let s = terms.intern_ref(alloc, quad.subject)?;
-    let p = terms.intern_ref(alloc, quad.predicate)?;
     let o = terms.intern_ref(alloc, quad.object)?;
+    let p = terms.intern_ref(alloc, quad.predicate)?;
     let g = match quad.graph_name {
         Some(graph_name) => Some(terms.intern_ref(alloc, graph_name)?),
         None => None,
