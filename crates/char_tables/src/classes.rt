@@ -23,6 +23,18 @@ const BASE: [(u32, u32); 12] = [
 // What PN_CHARS has past ASCII and PN_CHARS_BASE lacks.
 const INNER: [(u32, u32); 3] = [(0xB7, 0xB7), (0x300, 0x36F), (0x203F, 0x2040)];
 
+// A `|` for each byte that an IRIREF excludes, and for any other the byte itself, or `~` if it is
+// 0x7F or more.
+static IRI_BYTES: [u8; 256] = *b"\
+    ||||||||||||||||||||||||||||||||\
+    |!|#$%&'()*+,-./0123456789:;|=|?\
+    @ABCDEFGHIJKLMNOPQRSTUVWXYZ[|]|_\
+    |abcdefghijklmnopqrstuvwxyz|||~~\
+    ~~~~~~~~~~~~~~~~~~~~~~~~~~~~~~~~\
+    ~~~~~~~~~~~~~~~~~~~~~~~~~~~~~~~~\
+    ~~~~~~~~~~~~~~~~~~~~~~~~~~~~~~~~\
+    ~~~~~~~~~~~~~~~~~~~~~~~~~~~~~~~~";
+
 // Whether a character is an ASCII one of those given, or in one of the tables of the others.
 macro_rules! is_member {
     ($c:expr, $ascii:pat, $($table:expr),+) => {
@@ -68,13 +80,20 @@ pub fn is_pn(c: char) -> bool
 }
 
 /// Whether the character may stand unescaped in an IRIREF (RDF 1.1 N-Quads, section 4).
+#[inline]
 pub fn is_iri_char(c: char) -> bool
     ensures { result ≡ not (is_in excluded_from_iriref c) }
 {
-    !matches!(
-        c,
-        '\0'..=' ' | '"' | '<' | '>' | '\\' | '^' | '`' | '{'..='}'
-    )
+    !c.is_ascii() || is_iri_byte(c as u8)
+}
+
+/// Whether the character with this code point may stand unescaped in an IRIREF. All from 0x80 on
+/// may, so a text in UTF-8 can be tested byte by byte.
+#[inline]
+pub fn is_iri_byte(byte: u8) -> bool
+    ensures { result ≡ not (is_in excluded_from_iriref byte) }
+{
+    IRI_BYTES[byte as usize] != b'|'
 }
 
 /// HEX (RDF 1.1 N-Quads, section 4).
