@@ -7,7 +7,7 @@ use Rattle.rdf_terms.specs.Lists.{In}
 use Rattle.terminals.specs.declared.bodies.Quote.TheVariants.{Double, Single}
 use Rattle.terminals.specs.declared.bodies.Body.{Body}
 use Rattle.terminals.specs.declared.bodies.Body.TheVariants.{Iri, Short, Long}
-use Rattle.terminals.specs.Escapes.{echar_meanings, IsNumberOf, IsUchar, IsEchar}
+use Rattle.terminals.specs.Escapes.{echar_meanings, IsNumberOf, IsUchar, IsEchar, BeginsWithNoOne}
 use Rattle.terminals.specs.Spellings.{stands_for_itself, IsEscape, SpellsOne, Spells, SpellsNone}
 use Rattle.terminals.proofs.Escaping.{same_head, same_tail, same_uchar, meaning_ascii, meaning_letter, hex_is_ascii}
 
@@ -58,6 +58,12 @@ escape_front (Short q) spelled c (inl u) = (u.letter ∷ u.digits, u.spelling)
 escape_front (Short q) spelled c (inr e) = (e.letter ∷ [], e.spelling)
 escape_front (Long q) spelled c (inl u) = (u.letter ∷ u.digits, u.spelling)
 escape_front (Long q) spelled c (inr e) = (e.letter ∷ [], e.spelling)
+
+-- where no `\` stands at the front, no escape does
+pub no_escape_unmarked : (body : Body) (text : List ℕ) → ((rest : List ℕ) → text ≢ 92 ∷ rest) → BeginsWithNoOne (IsEscape body) text
+no_escape_unmarked body text unmarked spelled c rest splits is =
+    let front = escape_front body spelled c is in
+    unmarked (front.0 ++ rest) (splits ∙ ap (λ s. s ++ rest) front.1)
 
 backslash_stands : (body : Body) → stands_for_itself body 92 ≡ false
 backslash_stands Iri = refl

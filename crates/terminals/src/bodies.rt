@@ -1,7 +1,5 @@
-ghost use Rattle.std.specs.Prelude.{◌≡◌, ◌<◌};
+ghost use Rattle.std.specs.Prelude.{◌≡◌};
 ghost use Rattle.terminals.specs.Spellings.{quote_mark, stands_for_itself};
-
-use char_tables::is_iri_char;
 
 /// The mark around a string.
 #[derive(Clone, Copy, Debug, PartialEq, Eq)]
@@ -11,13 +9,30 @@ pub enum Quote {
 }
 
 impl Quote {
-    pub(crate) fn mark(self) -> u8
+    #[inline]
+    fn mark(self) -> u8
         ensures { result ≡ quote_mark self }
     {
         match self {
             Quote::Double => b'"',
             Quote::Single => b'\'',
         }
+    }
+
+    // Whether the byte stands for itself between two quotes. Those that do not are ASCII.
+    #[inline]
+    pub(crate) fn short_takes(self, byte: u8) -> bool
+        ensures { result ≡ stands_for_itself (Body.Short self) byte }
+    {
+        !(byte == self.mark() || byte == b'\\' || byte == b'\n' || byte == b'\r')
+    }
+
+    // Whether the byte stands for itself between six quotes. Those that do not are ASCII.
+    #[inline]
+    pub(crate) fn long_takes(self, byte: u8) -> bool
+        ensures { result ≡ stands_for_itself (Body.Long self) byte }
+    {
+        !(byte == self.mark() || byte == b'\\')
     }
 }
 
@@ -30,19 +45,4 @@ pub enum Body {
     Short(Quote),
     /// Characters of a string between six quotes.
     Long(Quote),
-}
-
-impl Body {
-    // Whether the byte stands for itself. Those that do not are ASCII.
-    pub(crate) fn takes(self, byte: u8) -> bool
-        ensures { result ≡ stands_for_itself self byte }
-    {
-        match self {
-            Body::Iri => is_iri_char(byte as char),
-            Body::Short(quote) => {
-                !(byte == quote.mark() || byte == b'\\' || byte == b'\n' || byte == b'\r')
-            }
-            Body::Long(quote) => !(byte == quote.mark() || byte == b'\\'),
-        }
-    }
 }

@@ -7,6 +7,7 @@ use crate::fronts::after;
 use crate::{Body, Quote, Spelling, run};
 
 // Spelled characters between two marks at the front, and what follows them.
+#[inline]
 fn between(text: &str, first: char, last: char, body: Body) -> Option<(Spelling<'_>, &str)>
     requires opens { first < 128 }
     requires closes { last < 128 }
@@ -21,6 +22,7 @@ fn between(text: &str, first: char, last: char, body: Body) -> Option<(Spelling<
 
 /// The IRIREF at the front of the text (RDF 1.1 N-Quads, section 4): how its IRI is spelled, and
 /// what follows it.
+#[inline]
 pub fn iriref(text: &str) -> Option<(Spelling<'_>, &str)>
     ensures found { IfSome result (λ x. ReadsSpelling IriRef text.now x.0 x.1.now) }
     ensures none { IfNone result (TextBeginsWithNone IriRef text.now) }
@@ -30,6 +32,7 @@ pub fn iriref(text: &str) -> Option<(Spelling<'_>, &str)>
 
 /// The string between two quotes at the front of the text, which is STRING_LITERAL_QUOTE at
 /// `Quote::Double` (RDF 1.1 N-Quads, section 4): how it is spelled, and what follows it.
+#[inline]
 pub fn short_string(text: &str, quote: Quote) -> Option<(Spelling<'_>, &str)>
     ensures found { IfSome result (λ x. ReadsSpelling (ShortString quote) text.now x.0 x.1.now) }
     ensures none { IfNone result (TextBeginsWithNone (ShortString quote) text.now) }

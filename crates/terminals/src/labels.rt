@@ -15,6 +15,7 @@ pub enum Grammar {
 }
 
 impl Grammar {
+    #[inline]
     fn begins_label(self, c: char) -> bool
         ensures { result ≡ begins_label self c }
     {
@@ -24,6 +25,7 @@ impl Grammar {
         }
     }
 
+    #[inline]
     fn ends_label(self, c: char) -> bool
         ensures { result ≡ ends_label self c }
     {

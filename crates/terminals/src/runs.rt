@@ -2,8 +2,9 @@ ghost use Rattle.std.specs.Prelude.{◌≡◌, ◌≤◌, ℕ, List, drop, lengt
 ghost use Rattle.std.specs.List.{prefix_len};
 ghost use Rattle.terminals.specs.Spellings.{stands_for_itself, BeginsWithRun, TextSpells};
 
-use crate::Body;
 use crate::escapes::escape;
+use crate::{Body, Quote};
+use char_tables::is_iri_byte;
 use rdf_terms::NoMemory;
 
 /// Characters as they are spelled between two marks.
@@ -17,18 +18,57 @@ pub struct Spelling<'a> {
     pub has_escapes: bool,
 }
 
-// How many bytes at the front stand for themselves.
-fn plain_len(text: &str, body: Body) -> usize
-    ensures is { result ≡ prefix_len (stands_for_itself body) text.now }
+// How many bytes at the front stand for themselves in an IRI.
+#[inline]
+fn plain_iri_len(text: &str) -> usize
+    ensures is { result ≡ prefix_len (stands_for_itself Body.Iri) text.now }
     ensures within { result ≤ length text.now }
 {
     text.as_bytes()
         .iter()
-        .take_while(|byte| body.takes(**byte))
+        .take_while(|byte| is_iri_byte(**byte))
         .count()
 }
 
+// How many bytes at the front stand for themselves in a string between two quotes.
+#[inline]
+fn plain_short_len(text: &str, quote: Quote) -> usize
+    ensures is { result ≡ prefix_len (stands_for_itself (Body.Short quote)) text.now }
+    ensures within { result ≤ length text.now }
+{
+    text.as_bytes()
+        .iter()
+        .take_while(|byte| quote.short_takes(**byte))
+        .count()
+}
+
+// How many bytes at the front stand for themselves in a string between six quotes.
+#[inline]
+fn plain_long_len(text: &str, quote: Quote) -> usize
+    ensures is { result ≡ prefix_len (stands_for_itself (Body.Long quote)) text.now }
+    ensures within { result ≤ length text.now }
+{
+    text.as_bytes()
+        .iter()
+        .take_while(|byte| quote.long_takes(**byte))
+        .count()
+}
+
+// How many bytes at the front stand for themselves. Which test they pass is chosen once for all.
+#[inline]
+fn plain_len(text: &str, body: Body) -> usize
+    ensures is { result ≡ prefix_len (stands_for_itself body) text.now }
+    ensures within { result ≤ length text.now }
+{
+    match body {
+        Body::Iri => plain_iri_len(text),
+        Body::Short(quote) => plain_short_len(text, quote),
+        Body::Long(quote) => plain_long_len(text, quote),
+    }
+}
+
 // What follows the characters at the front that stand for themselves.
+#[inline]
 fn after_plain(text: &str, body: Body) -> &str
     ensures { result.now ≡ drop (prefix_len (stands_for_itself body) text.now) text.now }
 {
@@ -36,6 +76,7 @@ fn after_plain(text: &str, body: Body) -> &str
 }
 
 /// The longest run of spelled characters at the front, and what follows it.
+#[inline]
 pub fn run(text: &str, body: Body) -> (Spelling<'_>, &str)
     ensures { BeginsWithRun body text.now result.0 result.1.now }
 {
