@@ -5,7 +5,7 @@ ghost use Rattle.std.specs.Str.{bytes_eq};
 ghost use Rattle.rdf_terms.specs.CanonicalForm.{canonical_line, canonical_term, canonical_graph_name, canonical_suffix, escaped, xsd_string};
 ghost use Rattle.rdf_terms.specs.Document.{statement, term_at, graph_name_at, IsInRange};
 ghost use Rattle.canonical_writer.specs.Names.{naming_of, HasNames, IsNamed};
-ghost use Rattle.canonical_writer.specs.Runs.{line_start};
+ghost use Rattle.canonical_writer.specs.Runs.{line_start, line_rest};
 
 use crate::escape::push_escaped;
 use crate::names::Names;
@@ -45,6 +45,61 @@ fn append_line<N: Names>(
     ensures front { StartsWith out.new.items out.old.items }
 {
     push_place(out, terms, quad.s, names)?;
+    push_rest(out, terms, quad, names)
+}
+
+/// Appends the canonical line of a quad, whose start is at hand: it is copied and not written again.
+/// After an `Err` the bytes are as before.
+pub(crate) fn push_behind<N: Names>(
+    out: &mut Vec<u8>,
+    start: &[u8],
+    terms: &TermTable,
+    quad: Quad,
+    names: &N,
+) -> Result<(), NoMemory>
+    requires start { start.now ≡ line_start (naming_of (N.name names.now)) (term_at terms.now quad.s) }
+    requires in_range { IsInRange terms.now quad }
+    requires named { HasNames (N.name names.now) (statement terms.now quad) }
+    ensures ok { OnOk result (out.new.items ≡ out.old.items ++ canonical_line (naming_of (N.name names.now)) (statement terms.now quad)) }
+    ensures err { OnErr result (out.new.items ≡ out.old.items) }
+{
+    let before = out.len();
+    let result = append_behind(out, start, terms, quad, names);
+    if result.is_err() {
+        out.truncate(before);
+    }
+    result
+}
+
+fn append_behind<N: Names>(
+    out: &mut Vec<u8>,
+    start: &[u8],
+    terms: &TermTable,
+    quad: Quad,
+    names: &N,
+) -> Result<(), NoMemory>
+    requires start { start.now ≡ line_start (naming_of (N.name names.now)) (term_at terms.now quad.s) }
+    requires in_range { IsInRange terms.now quad }
+    requires named { HasNames (N.name names.now) (statement terms.now quad) }
+    ensures ok { OnOk result (out.new.items ≡ out.old.items ++ canonical_line (naming_of (N.name names.now)) (statement terms.now quad)) }
+    ensures front { StartsWith out.new.items out.old.items }
+{
+    out.extend_from_slice(start)?;
+    push_rest(out, terms, quad, names)
+}
+
+/// Appends what stands behind the subject in the line of a quad.
+fn push_rest<N: Names>(
+    out: &mut Vec<u8>,
+    terms: &TermTable,
+    quad: Quad,
+    names: &N,
+) -> Result<(), NoMemory>
+    requires in_range { IsInRange terms.now quad }
+    requires named { HasNames (N.name names.now) (statement terms.now quad) }
+    ensures ok { OnOk result (out.new.items ≡ out.old.items ++ line_rest (naming_of (N.name names.now)) (statement terms.now quad)) }
+    ensures front { StartsWith out.new.items out.old.items }
+{
     push_place(out, terms, quad.p, names)?;
     push_place(out, terms, quad.o, names)?;
     push_graph_name(out, terms, quad.g, names)?;
@@ -91,6 +146,7 @@ fn push_graph_name<N: Names>(
 }
 
 /// Appends the term with this number, and a space.
+#[inline]
 fn push_place<N: Names>(
     out: &mut Vec<u8>,
     terms: &TermTable,
@@ -110,6 +166,7 @@ fn push_place<N: Names>(
     Ok(())
 }
 
+#[inline]
 fn push_term<N: Names>(out: &mut Vec<u8>, term: &Term, names: &N) -> Result<(), NoMemory>
     requires { IsNamed (N.name names.now) term.now }
     ensures ok { OnOk result (out.new.items ≡ out.old.items ++ canonical_term (naming_of (N.name names.now)) term.now) }
@@ -122,6 +179,7 @@ fn push_term<N: Names>(out: &mut Vec<u8>, term: &Term, names: &N) -> Result<(), 
     }
 }
 
+#[inline]
 fn push_iri(out: &mut Vec<u8>, iri: &TermText) -> Result<(), NoMemory>
     ensures ok { OnOk result (out.new.items ≡ out.old.items ++ (codes "<" ++ (iri.now ++ codes ">"))) }
     ensures front { StartsWith out.new.items out.old.items }

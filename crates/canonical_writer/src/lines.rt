@@ -6,7 +6,7 @@ ghost use Rattle.canonical_writer.specs.Names.{naming_of, HasNames, IsNamed};
 ghost use Rattle.canonical_writer.specs.Pieces.{pieces};
 ghost use Rattle.canonical_writer.specs.Runs.{line_start};
 
-use crate::line::{push_line, push_start};
+use crate::line::{push_behind, push_line, push_start};
 use crate::names::Names;
 use rdf_terms::{NoMemory, Quad, TermTable};
 use std::alloc::Global;
@@ -79,6 +79,24 @@ impl Lines {
         note_length(&mut self.text, &mut self.lengths, before)
     }
 
+    /// The same as `push`, of a line whose start is at hand.
+    pub(crate) fn push_behind<N: Names>(
+        &mut self,
+        start: &[u8],
+        terms: &TermTable,
+        quad: Quad,
+        names: &N,
+    ) -> Result<(), NoMemory>
+        requires start { start.now ≡ line_start (naming_of (N.name names.now)) (term_at terms.now quad.s) }
+        requires in_range { IsInRange terms.now quad }
+        requires named { HasNames (N.name names.now) (statement terms.now quad) }
+        ensures { OnOk result (self.new ≡ self.old ++ canonical_line (naming_of (N.name names.now)) (statement terms.now quad) ∷ []) }
+    {
+        let before = self.text.len();
+        push_behind(&mut self.text, start, terms, quad, names)?;
+        note_length(&mut self.text, &mut self.lengths, before)
+    }
+
     /// Adds the start of a line alone: a subject, and the space behind it.
     pub(crate) fn push_start<N: Names>(
         &mut self,
@@ -127,6 +145,7 @@ impl Lines {
 
 /// Notes how long the text from this place on is. Where there is no memory for that, the text is cut
 /// off again.
+#[inline]
 fn note_length(text: &mut Vec<u8>, lengths: &mut Vec<usize>, before: usize) -> Result<(), NoMemory>
     requires { before ≤ length text.old.items }
     ensures noted { OnOk result (lengths.new.items ≡ lengths.old.items ++ (length text.old.items - before) ∷ []) }

@@ -53,7 +53,7 @@ fn write_runs<N: Names>(
             group.clear();
             front = run.key;
         }
-        push_lines(&mut group, terms, run.quads, names)?;
+        push_lines(&mut group, run.key, terms, run.quads, names)?;
     }
     group.append_sorted(alloc, &mut text)?;
     Ok(Bytes::new(text))
@@ -76,19 +76,19 @@ fn begins_with(text: &[u8], front: &[u8]) -> bool
     text.starts_with(front)
 }
 
-/// Adds the lines of the quads.
+/// Adds the lines of a run, each of which begins with its key.
 fn push_lines<N: Names>(
     lines: &mut Lines,
+    key: &[u8],
     terms: &TermTable,
     quads: &[Quad],
     names: &N,
 ) -> Result<(), NoMemory>
-    requires in_range { All (IsInRange terms.now) quads.now }
-    requires named { All (λ q. HasNames (N.name names.now) (statement terms.now q)) quads.now }
+    requires { IsRun (N.name names.now) terms.now key.now quads.now }
     ensures { OnOk result (lines.new ≡ lines.old ++ lines_of (naming_of (N.name names.now)) terms.now quads.now) }
 {
     for quad in quads {
-        lines.push(terms, *quad, names)?;
+        lines.push_behind(key, terms, *quad, names)?;
     }
     Ok(())
 }

@@ -13,11 +13,8 @@ use Rattle.canonical_writer.proofs.sorted.write_runs.Goals as goal
 pub loop-run-init : goal.loop-run-init
 loop-run-init g c = nothing_written _ _ c.args.runs.now c.new-text.result.items c.new-group.result c.first_key-front.result.now c.new-text.ensures.items c.new-group.ensures c.first_key-front.ensures
 
-pub push_lines-requires-clause-in_range : goal.push_lines-requires-clause-in_range
-push_lines-requires-clause-in_range g c = (c.requires.runs c.loop-run.run-index _ c.loop-run-test.true).in_range
-
-pub push_lines-requires-clause-named : goal.push_lines-requires-clause-named
-push_lines-requires-clause-named g c = (c.requires.runs c.loop-run.run-index _ c.loop-run-test.true).named
+pub push_lines-requires : goal.push_lines-requires
+push_lines-requires g c = c.requires.runs c.loop-run.run-index _ c.loop-run-test.true
 
 pub loop-run-preserved : goal.loop-run-preserved
 loop-run-preserved g c =
