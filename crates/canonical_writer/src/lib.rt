@@ -14,5 +14,6 @@ mod lines;
 mod list_names;
 mod names;
 mod numeral;
+mod room;
 mod runs;
 mod sorted;
