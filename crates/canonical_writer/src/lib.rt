@@ -5,7 +5,7 @@ pub use line::push_line;
 pub use lines::Lines;
 pub use list_names::ListNames;
 pub use names::{DegreeNames, Names, NumberNames};
-pub use sorted::write_sorted;
+pub use sorted::{write_sorted, write_sorted_in};
 
 mod escape;
 pub mod laws;

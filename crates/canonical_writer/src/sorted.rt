@@ -27,16 +27,32 @@ pub fn write_sorted<N: Names>(
     requires named { All (λ q. HasNames (N.name names.now) (statement terms.now q)) quads.now }
     ensures { IfOk result (λ text. text ≡ joined (sorted (map (canonical_line (naming_of (N.name names.now))) (map (statement terms.now) quads.now)))) }
 {
+    write_sorted_in(alloc, Vec::new(alloc), terms, quads, names)
+}
+
+/// The same as `write_sorted`, in the memory of a vector that is done with. What it holds is dropped.
+pub fn write_sorted_in<N: Names>(
+    alloc: Global,
+    memory: Vec<u8>,
+    terms: &TermTable,
+    quads: &[Quad],
+    names: &N,
+) -> Result<Bytes, NoMemory>
+    requires in_range { All (IsInRange terms.now) quads.now }
+    requires named { All (λ q. HasNames (N.name names.now) (statement terms.now q)) quads.now }
+    ensures { IfOk result (λ text. text ≡ joined (sorted (map (canonical_line (naming_of (N.name names.now))) (map (statement terms.now) quads.now)))) }
+{
     let mut keys = Lines::new(alloc);
     let stretches = cut_at_subjects(alloc, terms, quads, names, &mut keys)?;
     let runs = sorted_runs(alloc, &keys, stretches.as_slice())?;
-    write_runs(alloc, terms, runs.as_slice(), names)
+    write_runs(alloc, memory, terms, runs.as_slice(), names)
 }
 
 /// The lines of the runs in byte order, one after the other. A run and those behind it whose keys go
 /// on behind its own make a group: all lines of a group are before those of the next.
 fn write_runs<N: Names>(
     alloc: Global,
+    memory: Vec<u8>,
     terms: &TermTable,
     runs: &[Run<'_>],
     names: &N,
@@ -45,7 +61,8 @@ fn write_runs<N: Names>(
     requires sorted { KeysAscend (λ r. r.key.now) runs.now }
     ensures { IfOk result (λ text. text ≡ joined (sorted (flat_map (λ r. lines_of (naming_of (N.name names.now)) terms.now r.quads.now) runs.now))) }
 {
-    let mut text = Vec::new(alloc);
+    let mut text = memory;
+    text.clear();
     let mut group = Lines::new(alloc);
     let mut front = first_key(runs);
     for (place, run) in runs.iter().enumerate() {
