@@ -18,6 +18,7 @@ use Rattle.rdf_terms.proofs.Adding.{statement_injective}
 use Rattle.dataset_index.specs.declared.mention.Mention.{Mention}
 use Rattle.dataset_index.specs.Mentions.{noted_places, places_of, NotesPlaces, places_before}
 use Rattle.dataset_index.specs.NodeTerms.{NumbersNodes}
+use Rattle.dataset_index.specs.HeldNodes.{AreNodesBelow}
 use Rattle.dataset_index.specs.Indexed.{IsIndexed}
 use Rattle.dataset_index.specs.QuadOrder.{Ascend}
 use Rattle.dataset_index.proofs.Numbers.{length-numbers_below, slice_get-map_numbers_below, map-numbers_below}
@@ -93,10 +94,16 @@ mentioned_below nodes n st v h = by (one_of (is_node n st.subject) (is_node n st
     by (inr h) = more (one_of (is_node n st.object) (is_named_by n st.graph_name) h)
 
 -- a node of the table is below the number of nodes
-pub node_below : (d : Document) → IsDocument d → (n k : ℕ) → slice_get d.terms k ≡ Some (Blank n) → n < length d.labels
-node_below d is n k at =
-    let u = is.draft.term_used n (In-at d.terms k (Blank n) at) in
+In_below : (d : Document) → IsDocument d → (n : ℕ) → In (Blank n) d.terms → n < length d.labels
+In_below d is n there =
+    let u = is.draft.term_used n there in
     mentioned_below (length d.labels) n u.statement (All-In (IsValidStatement (length d.labels)) (statements d) u.statement is.draft.valid u.there) u.mentioned
+
+pub node_below : (d : Document) → IsDocument d → (n k : ℕ) → slice_get d.terms k ≡ Some (Blank n) → n < length d.labels
+node_below d is n k at = In_below d is n (In-at d.terms k (Blank n) at)
+
+pub AreNodesBelow-terms : (d : Document) → IsDocument d → AreNodesBelow d.terms
+AreNodesBelow-terms d is n there = let l = In_below d is n there in let b = is.draft.labels_bound in omega arith
 
 -- the number of the term of a node that a quad mentions
 abbrev Numbered : List Term → ℕ → Type 0

@@ -2,4 +2,5 @@ pub mod QuadOrder
 pub mod Mentions
 pub mod Segments
 pub mod NodeTerms
+pub mod HeldNodes
 pub mod Indexed

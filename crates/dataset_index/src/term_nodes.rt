@@ -2,52 +2,62 @@ ghost use Rattle.std.specs.Prelude.{◌≡◌, ◌<◌, length, map, IfOk};
 ghost use Rattle.rdf_terms.specs.Lists.{AreDistinct};
 ghost use Rattle.rdf_terms.specs.Document.{term_at};
 ghost use Rattle.dataset_index.specs.Mentions.{node_in};
+ghost use Rattle.dataset_index.specs.HeldNodes.{held_for, node_held, AreNodesBelow};
 
 use rdf_terms::{NoMemory, Term, TermTable};
 use std::alloc::Global;
 use std::marker::Model;
 
+// What is held for a term that is no node.
+const NO_NODE: u32 = u32::MAX;
+
 /// Terms by number, of which it is at hand which node each is.
 #[derive(Drop)]
 pub(crate) struct TermNodes<'a> {
     terms: &'a TermTable,
-    nodes: Vec<Option<u32>>,
+    held: Vec<u32>,
 }
 
 impl<'a> Model for TermNodes<'a> {
     ghost use Rattle.std.specs.Prelude.{◌≡◌, List, map};
     ghost use Rattle.rdf_terms.specs.declared.term.Term.{Term};
-    ghost use Rattle.dataset_index.specs.Mentions.{node_in};
+    ghost use Rattle.dataset_index.specs.HeldNodes.{held_for, AreNodesBelow};
 
     ghost Value = { List Term };
 
     ghost view = { λ t. t.terms.now };
 
-    ghost invariant = { λ t. t.nodes.items ≡ map node_in t.terms.now };
+    ghost invariant = { λ t. (t.held.items ≡ map held_for t.terms.now) × AreNodesBelow t.terms.now };
 }
 
-// The node that the term is.
-fn node_of_term(term: &Term) -> Option<u32>
-    ensures { result ≡ node_in term.now }
+fn number_held(term: &Term) -> u32
+    ensures { result ≡ held_for term.now }
 {
     match term {
-        Term::Blank(node) => Some(*node),
-        Term::Iri(_) | Term::Literal(_) => None,
+        Term::Blank(node) => *node,
+        Term::Iri(_) | Term::Literal(_) => NO_NODE,
     }
 }
 
-fn nodes_of(alloc: Global, terms: &[Term]) -> Result<Vec<Option<u32>>, NoMemory>
-    ensures { IfOk result (λ nodes. nodes.items ≡ map node_in terms.now) }
+fn node_of_number(held: u32) -> Option<u32>
+    ensures { result ≡ node_held held }
 {
-    Ok(terms.iter().map(|term| node_of_term(term)).collect(alloc)?)
+    if held == NO_NODE { None } else { Some(held) }
+}
+
+fn numbers_held(alloc: Global, terms: &[Term]) -> Result<Vec<u32>, NoMemory>
+    ensures { IfOk result (λ held. held.items ≡ map held_for terms.now) }
+{
+    Ok(terms.iter().map(|term| number_held(term)).collect(alloc)?)
 }
 
 impl<'a> TermNodes<'a> {
     pub fn of(alloc: Global, terms: &'a TermTable) -> Result<Self, NoMemory>
+        requires { AreNodesBelow terms.now }
         ensures { IfOk result (λ nodes. nodes ≡ terms.now) }
     {
-        let nodes = nodes_of(alloc, terms.as_slice())?;
-        Ok(TermNodes { terms, nodes })
+        let held = numbers_held(alloc, terms.as_slice())?;
+        Ok(TermNodes { terms, held })
     }
 
     /// The node that the term with this number is.
@@ -55,7 +65,7 @@ impl<'a> TermNodes<'a> {
         requires { number < length self.now }
         ensures { result ≡ node_in (term_at self.now number) }
     {
-        self.nodes[number as usize]
+        node_of_number(self.held[number as usize])
     }
 
     /// How many terms there are.

@@ -6,8 +6,12 @@ use Rattle.rdf_terms.specs.declared.term.Term.TheVariants.{Blank}
 use Rattle.rdf_terms.proofs.Permutations.{Permutes-from_IsPermutation}
 use Rattle.dataset_index.specs.Mentions.{noted_places, NotesPlaces}
 use Rattle.dataset_index.specs.NodeTerms.{NumbersNodes}
-use Rattle.dataset_index.proofs.Building.{indexed, IsDocument-ordered, node_below, statements_permute}
+use Rattle.dataset_index.specs.HeldNodes.{AreNodesBelow}
+use Rattle.dataset_index.proofs.Building.{indexed, IsDocument-ordered, node_below, AreNodesBelow-terms, statements_permute}
 use Rattle.dataset_index.proofs.dataset.Dataset.build.Goals as goal
+
+pub of-requires : goal.of-requires
+of-requires c = subst AreNodesBelow (sym c.terms.ensures) (AreNodesBelow-terms c.args.parsed c.labels-nodes.ensures.document)
 
 pub node_terms-requires : goal.node_terms-requires
 node_terms-requires c n k e =
