@@ -7,11 +7,12 @@ ghost use Rattle.nquads_reader.specs.Reading.{Reads, IsFaultOf};
 
 use crate::quad::{Object, Resource, StatedQuad};
 use crate::terms::{iri, object, resource};
-use crate::white::{after_mark, after_white, is_optional_comment};
+use crate::white::{after_white, is_optional_comment};
 use iri_resolve::has_scheme;
 use rdf_terms::NoMemory;
 use simdutf8::compat::from_utf8;
 use std::alloc::Global;
+use terminals::after;
 
 // Why a line was not taken.
 #[derive(Clone, Copy, Debug, PartialEq, Eq)]
@@ -34,7 +35,7 @@ impl From<NoMemory> for LineFault {
 fn graph_name(alloc: Global, text: &str) -> Result<Option<(Option<Resource<'_>>, &str)>, NoMemory>
     ensures { IfOk result (Reads (λ x. (x.0, x.1.now)) (BeginsWithGraphName text.now)) }
 {
-    if after_mark(text, '.').is_some() {
+    if after(text, '.').is_some() {
         return Ok(Some((None, text)));
     }
     match resource(alloc, text)? {
@@ -72,7 +73,7 @@ fn terms(alloc: Global, text: &str) -> Result<Option<(StatedQuad<'_>, &str)>, No
 fn ends_statement(text: &str) -> bool
     ensures { IsTrue result ↔ EndsStatement text.now }
 {
-    match after_mark(text, '.') {
+    match after(text, '.') {
         None => false,
         Some(rest) => is_optional_comment(after_white(rest)),
     }

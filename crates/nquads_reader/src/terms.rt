@@ -9,10 +9,10 @@ ghost use Rattle.nquads_reader.specs.Suffixes.{suffix_kind};
 use crate::quad::{Object, Resource};
 use crate::stated_literal::{StatedLiteral, Suffix};
 use crate::stated_text::StatedText;
-use crate::white::{after_mark, after_white};
+use crate::white::after_white;
 use rdf_terms::NoMemory;
 use std::alloc::Global;
-use terminals::{Grammar, Quote, Spelling, blank_node_label, iriref, langtag, short_string};
+use terminals::{Grammar, Quote, Spelling, after, blank_node_label, iriref, langtag, short_string};
 
 // The datatype of a string with no suffix (RDF 1.1 Concepts, section 3.3).
 const XSD_STRING: &str = "http://www.w3.org/2001/XMLSchema#string";
@@ -64,10 +64,10 @@ pub fn resource(alloc: Global, text: &str) -> Result<Option<(Resource<'_>, &str)
 fn datatype(alloc: Global, text: &str) -> Result<Option<(StatedText<'_>, &str)>, NoMemory>
     ensures { IfOk result (Reads (λ x. (x.0, x.1.now)) (BeginsWithDatatype text.now)) }
 {
-    let Some(rest) = after_mark(text, '^') else {
+    let Some(rest) = after(text, '^') else {
         return Ok(None);
     };
-    let Some(rest) = after_mark(rest, '^') else {
+    let Some(rest) = after(rest, '^') else {
         return Ok(None);
     };
     iri(alloc, after_white(rest))

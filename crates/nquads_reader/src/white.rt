@@ -1,4 +1,4 @@
-ghost use Rattle.std.specs.Prelude.{◌≡◌, ◌≢◌, ◌≤◌, ◌<◌, ◌↔◌, ◌∷◌, ℕ, List, IsTrue, IfSome, IfNone, length};
+ghost use Rattle.std.specs.Prelude.{◌≡◌, ◌≤◌, ◌↔◌, IsTrue, length};
 ghost use Rattle.std.specs.List.{prefix_len};
 ghost use Rattle.nquads_reader.specs.Grammar.{is_white, IsWhiteThen, IsOptionalComment};
 
@@ -20,15 +20,6 @@ pub fn after_white(text: &str) -> &str
     ensures { IsWhiteThen text.now result.now }
 {
     &text[white_len(text.as_bytes())..]
-}
-
-// What follows the mark at the front.
-pub fn after_mark(text: &str, mark: char) -> Option<&str>
-    requires { mark < 128 }
-    ensures found { IfSome result (λ rest. text.now ≡ mark ∷ rest.now) }
-    ensures none { IfNone result ((rest : List ℕ) → text.now ≢ mark ∷ rest) }
-{
-    text.strip_prefix(mark)
 }
 
 // Whether nothing is left but a comment.
