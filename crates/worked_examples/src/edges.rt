@@ -3,12 +3,9 @@ ghost use Rattle.std.specs.Prelude.{◌≤◌};
 
 use outside::{Failed, FileShelf, MemShelf, MemSink, Shelf, Sink, StdSink};
 use std::alloc::Global;
+use std::process::Abort;
 use std::test::Fail;
 use std::{fs, io};
-
-fn numbers(alloc: Global, failing: &[u64]) -> Result<Vec<u64>, Fail> {
-    Ok(failing.to_vec(alloc)?)
-}
 
 // A shelf that has the one file `f`.
 fn shelf(alloc: Global, text: &str, piece: usize, failing: &[u64]) -> Result<MemShelf, Fail>
@@ -46,6 +43,32 @@ fn counts<S: Shelf>(
     Ok(answers)
 }
 
+// The answers for the file of this name, of a shelf in memory that has the file `f`.
+fn counts_in_memory(
+    alloc: Global,
+    piece: usize,
+    failing: &[u64],
+    name: &str,
+) -> Result<Vec<Result<usize, Failed>>, Fail> {
+    if piece == 0 {
+        return Err(Fail::from("a piece of this table has no byte"));
+    }
+    let mut shelf = shelf(alloc, "abcdefg", piece, failing)?;
+    let mut buf = [0u8; 4];
+    counts(alloc, &mut shelf, name, &mut buf)
+}
+
+// Tests ask the functions below, which assert where no shelf and no table is at hand: an assertion
+// beside them costs the prover minutes.
+fn assert_counts(
+    rt: &impl Abort,
+    answers: &[Result<usize, Failed>],
+    want: &[Result<usize, Failed>],
+    shown: &str,
+) {
+    assert_eq!(rt; answers, want, "{shown}");
+}
+
 #[test]
 fn a_shelf_in_memory_gives_pieces_and_fails_where_told(rt: HostRuntime) -> Result<(), Fail> {
     let alloc = rt.alloc();
@@ -58,17 +81,44 @@ fn a_shelf_in_memory_gives_pieces_and_fails_where_told(rt: HostRuntime) -> Resul
         (9, &[3], "f", &[Ok(4), Ok(3), Err(Failed)]),
     ];
     for (piece, failing, name, want) in cases {
-        let mut shelf = shelf(alloc, "abcdefg", piece, failing)?;
-        let mut buf = [0u8; 4];
-        let answers = counts(alloc, &mut shelf, name, &mut buf)?;
-        assert_eq!(rt; answers.as_slice(), want, "{piece} {name}");
+        let answers = counts_in_memory(alloc, piece, failing, name)?;
+        assert_counts(&rt, &answers, want, name);
     }
     Ok(())
 }
 
+fn sink(alloc: Global, room: usize, piece: usize, failing: &[u64]) -> Result<MemSink, Fail> {
+    if piece == 0 {
+        return Err(Fail::from("a piece of this table has no byte"));
+    }
+    Ok(MemSink::new(alloc, room, piece, failing.to_vec(alloc)?)?)
+}
+
+fn expect_put<S: Sink>(
+    rt: &impl Abort,
+    sink: &mut S,
+    bytes: &[u8],
+    want: Result<usize, Failed>,
+    shown: &str,
+) {
+    assert_eq!(rt; sink.put(bytes), want, "{shown}");
+}
+
+fn assert_bytes(rt: &impl Abort, bytes: &[u8], want: &[u8]) {
+    assert_eq!(rt; bytes, want);
+}
+
+// Puts `abc` three times and then nothing.
+fn expect_puts(rt: &impl Abort, sink: &mut MemSink, want: &[Result<usize, Failed>], taken: &str) {
+    for answer in want {
+        expect_put(rt, sink, b"abc", *answer, taken);
+    }
+    assert_bytes(rt, sink.bytes(), taken.as_bytes());
+    expect_put(rt, sink, b"", Ok(0), taken);
+}
+
 #[test]
 fn a_sink_in_memory_takes_pieces_and_fails_where_told(rt: HostRuntime) -> Result<(), Fail> {
-    let alloc = rt.alloc();
     let cases: [(usize, usize, &[u64], [Result<usize, Failed>; 3], &str); 5] = [
         (9, 2, &[], [Ok(2), Ok(2), Ok(2)], "ababab"),
         (9, 4, &[], [Ok(3), Ok(3), Ok(3)], "abcabcabc"),
@@ -77,14 +127,14 @@ fn a_sink_in_memory_takes_pieces_and_fails_where_told(rt: HostRuntime) -> Result
         (0, 4, &[], [Err(Failed), Err(Failed), Err(Failed)], ""),
     ];
     for (room, piece, failing, want, taken) in cases {
-        let mut sink = MemSink::new(alloc, room, piece, numbers(alloc, failing)?)?;
-        for answer in want {
-            assert_eq!(rt; sink.put(b"abc"), answer, "{room} {piece}");
-        }
-        assert_eq!(rt; sink.bytes(), taken.as_bytes());
-        assert_eq!(rt; sink.put(b""), Ok(0));
+        let mut sink = sink(rt.alloc(), room, piece, failing)?;
+        expect_puts(&rt, &mut sink, &want, taken);
     }
     Ok(())
+}
+
+fn expect_no_start<S: Shelf>(rt: &impl Abort, shelf: &mut S, name: &str) {
+    assert_eq!(rt; shelf.start(name), Err(Failed));
 }
 
 #[test]
@@ -96,10 +146,10 @@ fn a_file_is_read_and_a_missing_one_is_a_fault(rt: HostRuntime) -> Result<(), Fa
     let mut shelf = FileShelf::new(&rt);
     let mut buf = [0u8; 4];
     let answers = counts(alloc, &mut shelf, path.as_str(), &mut buf)?;
-    assert_eq!(rt; answers.as_slice(), [Ok(4), Ok(3), Ok(0)].as_slice());
-    assert_eq!(rt; buf.as_slice(), b"efgd".as_slice());
+    assert_counts(&rt, &answers, &[Ok(4), Ok(3), Ok(0)], "a file");
+    assert_bytes(&rt, &buf, b"efgd");
     fs::remove_file(&rt, path.as_path())?;
-    assert_eq!(rt; shelf.start(path.as_str()), Err(Failed));
+    expect_no_start(&rt, &mut shelf, path.as_str());
     Ok(())
 }
 
@@ -122,16 +172,14 @@ fn a_writer_of_std_gets_the_bytes_and_a_full_one_is_a_fault(rt: HostRuntime) -> 
     let mut path = std::env::temp_dir(&rt)?;
     path.push("rdfc_outside_sink.txt")?;
     let mut sink = StdSink::new(fs::create(&rt, path.as_path())?);
-    assert_eq!(rt; sink.put(b"abc"), Ok(3));
-    assert_eq!(rt; sink.put(b""), Ok(0));
-    assert_eq!(rt; sink.put(b"de"), Ok(2));
-    assert_eq!(rt;
-        fs::read(&rt, path.as_path())?.as_slice(),
-        b"abcde".as_slice()
-    );
+    expect_put(&rt, &mut sink, b"abc", Ok(3), "a file");
+    expect_put(&rt, &mut sink, b"", Ok(0), "a file");
+    expect_put(&rt, &mut sink, b"de", Ok(2), "a file");
+    let written = fs::read(&rt, path.as_path())?;
+    assert_bytes(&rt, &written, b"abcde");
     fs::remove_file(&rt, path.as_path())?;
     let mut full = StdSink::new(Full);
-    assert_eq!(rt; full.put(b"abc"), Err(Failed));
-    assert_eq!(rt; full.put(b""), Ok(0));
+    expect_put(&rt, &mut full, b"abc", Err(Failed), "a full writer");
+    expect_put(&rt, &mut full, b"", Ok(0), "a full writer");
     Ok(())
 }

@@ -4,6 +4,7 @@
 use canonical_writer::{NumberNames, push_line};
 use rdf_terms::{Literal, LiteralKind, NoMemory, Quad, Term, TermTable, TermText};
 use std::alloc::Global;
+use std::process::Abort;
 use std::test::Fail;
 
 const STRING: &str = "http://www.w3.org/2001/XMLSchema#string";
@@ -35,6 +36,34 @@ fn typed(alloc: Global, lexical: &str, iri: &str) -> Result<Literal, NoMemory> {
         lexical: TermText::copy(alloc, lexical)?,
         kind: LiteralKind::Typed(TermText::copy(alloc, iri)?),
     })
+}
+
+// Tests ask the functions below, which assert where no table is at hand: an assertion beside one
+// costs the prover minutes.
+fn assert_line(rt: &impl Abort, line: &[u8], want: &[u8], shown: &str) {
+    assert_eq!(rt; line, want, "at {shown:?}");
+}
+
+fn expect_line(
+    rt: &impl Abort,
+    alloc: Global,
+    object: Literal,
+    want: &str,
+    shown: &str,
+) -> Result<(), Fail> {
+    let line = line_of(alloc, object)?;
+    assert_line(rt, &line, want.as_bytes(), shown);
+    Ok(())
+}
+
+fn expect_escaped(
+    rt: &impl Abort,
+    alloc: Global,
+    lexical: &str,
+    written: &str,
+) -> Result<(), Fail> {
+    let want = format!(in alloc; "<http://e/s> <http://e/p> \"{written}\" .\n")?;
+    expect_line(rt, alloc, typed(alloc, lexical, STRING)?, &want, lexical)
 }
 
 #[test]
@@ -82,31 +111,26 @@ fn a_string_is_written_with_its_escapes(rt: HostRuntime) -> Result<(), Fail> {
         ("one\ttwo\nthree", "one\\ttwo\\nthree"),
         ("", ""),
     ];
-    let alloc = rt.alloc();
     for (lexical, written) in table {
-        let line = line_of(alloc, typed(alloc, lexical, STRING)?)?;
-        let want = format!(in alloc; "<http://e/s> <http://e/p> \"{written}\" .\n")?;
-        assert_eq!(rt; line.as_slice(), want.as_bytes(), "at {lexical:?}");
+        expect_escaped(&rt, rt.alloc(), lexical, written)?;
     }
     Ok(())
+}
+
+fn tagged(alloc: Global, lexical: &str, tag: &str) -> Result<Literal, NoMemory> {
+    Ok(Literal {
+        lexical: TermText::copy(alloc, lexical)?,
+        kind: LiteralKind::Tagged(TermText::copy(alloc, tag)?),
+    })
 }
 
 #[test]
 fn a_datatype_and_a_tag_are_written_behind_the_string(rt: HostRuntime) -> Result<(), Fail> {
     let alloc = rt.alloc();
-    let typed = line_of(alloc, typed(alloc, "1", "http://e/t")?)?;
-    assert_eq!(rt;
-        typed.as_slice(),
-        b"<http://e/s> <http://e/p> \"1\"^^<http://e/t> .\n".as_slice()
-    );
-    let tagged = Literal {
-        lexical: TermText::copy(alloc, "ja")?,
-        kind: LiteralKind::Tagged(TermText::copy(alloc, "de-CH")?),
-    };
-    let tagged = line_of(alloc, tagged)?;
-    assert_eq!(rt;
-        tagged.as_slice(),
-        b"<http://e/s> <http://e/p> \"ja\"@de-CH .\n".as_slice()
-    );
-    Ok(())
+    let typed = typed(alloc, "1", "http://e/t")?;
+    let want = "<http://e/s> <http://e/p> \"1\"^^<http://e/t> .\n";
+    expect_line(&rt, alloc, typed, want, "1")?;
+    let tagged = tagged(alloc, "ja", "de-CH")?;
+    let want = "<http://e/s> <http://e/p> \"ja\"@de-CH .\n";
+    expect_line(&rt, alloc, tagged, want, "ja")
 }
