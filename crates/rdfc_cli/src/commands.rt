@@ -77,16 +77,7 @@ fn read_file<S: Shelf>(alloc: Global, shelf: &mut S, file: &str) -> Result<Vec<u
     }
 }
 
-// The dataset of the command's file, whose bytes are not kept.
-fn dataset_of_file<S: Shelf>(alloc: Global, shelf: &mut S, file: &str) -> Result<Dataset, Status>
-    ensures accepted { IfOk result (λ d. IfSome (S.told shelf.old file.now) (λ told. Accepts told (dataset d))) }
-    ensures stops { IfErr result (Stops (seen S.told S.faults shelf.old shelf.new file.now)) }
-{
-    let bytes = read_file(alloc, shelf, file)?;
-    dataset_of_bytes(alloc, &bytes)
-}
-
-// The whole output of the command.
+// The whole output of the command. It is written where the bytes of the file were.
 fn output_of<S: Shelf>(
     alloc: Global,
     task: Task,
@@ -96,8 +87,9 @@ fn output_of<S: Shelf>(
     ensures output { IfOk result (λ text. IfSome (S.told shelf.old file.now) (λ told. IsOutput task told text)) }
     ensures stops { IfErr result (Stops (seen S.told S.faults shelf.old shelf.new file.now)) }
 {
-    let dataset = dataset_of_file(alloc, shelf, file)?;
-    match text_of(alloc, task, &dataset) {
+    let bytes = read_file(alloc, shelf, file)?;
+    let dataset = dataset_of_bytes(alloc, &bytes)?;
+    match text_of(alloc, task, bytes, &dataset) {
         Ok(text) => Ok(text),
         Err(FormFault::EqualHashes) => Err(refused(Cause::EqualHashes)),
         Err(FormFault::NoMemory) => Err(Status::NoMemory),

@@ -11,7 +11,7 @@ ghost use Rattle.rdfc_cli.specs.declared.form.FormFault.TheVariants.{NoMemory as
 
 use crate::order::order_by_hash;
 use crate::words::Task;
-use canonical_writer::{ListNames, write_sorted};
+use canonical_writer::{ListNames, write_sorted_in};
 use dataset_index::Dataset;
 use first_degree::FirstTable;
 use rdf_terms::{Bytes, NoMemory, Prefix};
@@ -48,22 +48,28 @@ fn canonical_order(alloc: Global, dataset: &Dataset) -> Result<Vec<u32>, FormFau
     }
 }
 
-// The canonical lines under identifiers by the places of this list, which holds every node.
-fn write_in_order(alloc: Global, dataset: &Dataset, order: &[u32]) -> Result<Bytes, NoMemory>
+// The canonical lines under identifiers by the places of this list, which holds every node. They are written in the
+// given memory.
+fn write_in_order(
+    alloc: Global,
+    memory: Vec<u8>,
+    dataset: &Dataset,
+    order: &[u32],
+) -> Result<Bytes, NoMemory>
     requires order { IsOrderBy (first_degree_hash (dataset_of dataset.now)) (length dataset.now.labels) order.now }
     requires valid { IsValid (dataset_of dataset.now) }
     ensures { IfOk result (λ text. text ≡ canonical_nquads (dataset_of dataset.now) (issued_names Prefix.Canonical order.now)) }
 {
     let names = ListNames::new(alloc, order, Prefix::Canonical)?;
-    write_sorted(alloc, dataset.terms(), dataset.quads(), &names)
+    write_sorted_in(alloc, memory, dataset.terms(), dataset.quads(), &names)
 }
 
-fn canonical_form(alloc: Global, dataset: &Dataset) -> Result<Bytes, FormFault>
+fn canonical_form(alloc: Global, memory: Vec<u8>, dataset: &Dataset) -> Result<Bytes, FormFault>
     ensures form { IfOk result (IsCanonicalForm (dataset_of dataset.now)) }
     ensures fault { IfErr result (IsFormFault (dataset_of dataset.now)) }
 {
     let order = canonical_order(alloc, dataset)?;
-    Ok(write_in_order(alloc, dataset, &order)?)
+    Ok(write_in_order(alloc, memory, dataset, &order)?)
 }
 
 // The hash of a text in lower-case hexadecimal, and a line feed.
@@ -76,12 +82,17 @@ fn hash_line(alloc: Global, text: &[u8]) -> Result<Bytes, AllocError>
     Ok(Bytes::new(line.into_bytes()))
 }
 
-/// What a task writes for a dataset.
-pub fn text_of(alloc: Global, task: Task, dataset: &Dataset) -> Result<Bytes, FormFault>
+/// What a task writes for a dataset, whose canonical form is written in the memory of a vector that is done with.
+pub fn text_of(
+    alloc: Global,
+    task: Task,
+    memory: Vec<u8>,
+    dataset: &Dataset,
+) -> Result<Bytes, FormFault>
     ensures text { IfOk result (IsTextOf task (dataset_of dataset.now)) }
     ensures fault { IfErr result (IsFormFault (dataset_of dataset.now)) }
 {
-    let form = canonical_form(alloc, dataset)?;
+    let form = canonical_form(alloc, memory, dataset)?;
     match task {
         Task::Canon => Ok(form),
         Task::Hash => match hash_line(alloc, form.as_slice()) {

@@ -8,8 +8,8 @@ use Rattle.rdfc_cli.proofs.form.write_in_order.Goals as goal
 pub new-requires : goal.new-requires
 new-requires c = AreDistinct-IsOrderBy c.requires.order
 
-pub write_sorted-requires-clause-named : goal.write_sorted-requires-clause-named
-write_sorted-requires-clause-named c =
+pub write_sorted_in-requires-clause-named : goal.write_sorted_in-requires-clause-named
+write_sorted_in-requires-clause-named c =
     let nodes = length c.args.dataset.now.labels in
     let name = issued_name Canonical c.args.order.now in
     let named = All-HasNames-valid nodes name (λ n l. IsSome-issued_name Canonical c.args.order.now n (In-IsOrderBy c.requires.order n l)) c.args.dataset.now.terms c.args.dataset.now.quads c.requires.valid.valid in
