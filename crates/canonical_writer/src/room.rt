@@ -1,22 +1,22 @@
 ghost use Rattle.std.specs.Prelude.{◌≡◌, ◌≤◌, length};
 
 use crate::runs::Run;
-use rdf_terms::{Literal, LiteralKind, NoMemory, Quad, Term, TermTable, TermText};
+use rdf_terms::{NoMemory, Quad, Term, TermTable};
 
 // How many runs room is made for at once.
 const RUNS_AT_ONCE: usize = 16;
 
-// What is counted for the name of a blank node. What is written may be longer than what is counted,
-// or shorter: the text grows by itself where it has to.
-const NAME_LEN: usize = 16;
+// What is counted for all of a line but its subject and the text of its object. What is written may
+// be longer, or shorter: the text grows by itself where it has to.
+const REST_LEN: usize = 64;
 
 /// At each place that is a multiple of `RUNS_AT_ONCE`, makes room in the text for the lines of so
 /// many runs from there on.
 ///
-/// To add up how long these lines will be, each of their terms is looked at. In the table the terms
-/// of one quad lie far from those of the next, and seldom in the processor's cache. Here no look
-/// waits for the one before it, so that many are fetched at a time, and when the lines are written
-/// the terms are at hand.
+/// To add up how long these lines will be, each of their objects is looked at. In the table the
+/// objects of two quads lie far apart, and seldom in the processor's cache. Here no look waits for
+/// the one before it, so that many are fetched at a time, and when the lines are written the objects
+/// are at hand.
 pub(crate) fn make_room(
     text: &mut Vec<u8>,
     terms: &TermTable,
@@ -32,58 +32,32 @@ pub(crate) fn make_room(
     Ok(())
 }
 
-/// How long the lines of the first runs will be.
+/// About how long the lines of the first runs will be.
 fn runs_len(terms: &TermTable, runs: &[Run<'_>]) -> usize {
     let mut len = 0usize;
     for run in runs.iter().take(RUNS_AT_ONCE) {
-        len = len.saturating_add(lines_len(terms, run));
-    }
-    len
-}
-
-fn lines_len(terms: &TermTable, run: &Run<'_>) -> usize {
-    let start_len = run.key.len().saturating_add(2);
-    let mut len = 0usize;
-    for quad in run.quads {
+        let others_len = run.key.len().wrapping_add(REST_LEN);
         len = len
-            .saturating_add(start_len)
-            .saturating_add(rest_len(terms, *quad));
+            .wrapping_add(run.quads.len().wrapping_mul(others_len))
+            .wrapping_add(objects_len(terms, run.quads));
     }
     len
 }
 
-/// How long the predicate, the object and the graph name are in a line.
-#[inline]
-fn rest_len(terms: &TermTable, quad: Quad) -> usize {
-    let graph_name_len = match quad.g {
-        Some(graph_name) => place_len(terms, graph_name),
-        None => 0,
-    };
-    place_len(terms, quad.p)
-        .saturating_add(place_len(terms, quad.o))
-        .saturating_add(graph_name_len)
-}
-
-#[inline]
-fn place_len(terms: &TermTable, number: u32) -> usize {
-    match terms.get(number) {
-        Some(Term::Iri(iri)) => enclosed_len(iri),
-        Some(Term::Blank(_)) => NAME_LEN,
-        Some(Term::Literal(literal)) => literal_len(literal),
-        None => 0,
+fn objects_len(terms: &TermTable, quads: &[Quad]) -> usize {
+    let mut len = 0usize;
+    for quad in quads {
+        len = len.wrapping_add(text_len(terms, quad.o));
     }
+    len
 }
 
-/// The text, the two bytes around it and a space.
+/// How long the text of the term with this number is. A node has none.
 #[inline]
-fn enclosed_len(text: &TermText) -> usize {
-    text.as_str().len().saturating_add(3)
-}
-
-fn literal_len(literal: &Literal) -> usize {
-    let kind_len = match &literal.kind {
-        LiteralKind::Typed(iri) => enclosed_len(iri),
-        LiteralKind::Tagged(tag) => enclosed_len(tag),
-    };
-    enclosed_len(&literal.lexical).saturating_add(kind_len)
+fn text_len(terms: &TermTable, number: u32) -> usize {
+    match terms.get(number) {
+        Some(Term::Iri(iri)) => iri.as_str().len(),
+        Some(Term::Literal(literal)) => literal.lexical.as_str().len(),
+        Some(Term::Blank(_)) | None => 0,
+    }
 }
