@@ -32,6 +32,7 @@ impl From<NoMemory> for LineFault {
 }
 
 // The graph name, where no dot stands in its place, and what follows it and white space.
+#[inline(always)]
 fn graph_name(alloc: Global, text: &str) -> Result<Option<(Option<Resource<'_>>, &str)>, NoMemory>
     ensures { IfOk result (Reads (λ x. (x.0, x.1.now)) (BeginsWithGraphName text.now)) }
 {
@@ -45,6 +46,7 @@ fn graph_name(alloc: Global, text: &str) -> Result<Option<(Option<Resource<'_>>,
 }
 
 // The terms of a statement, and what follows them and white space.
+#[inline(always)]
 fn terms(alloc: Global, text: &str) -> Result<Option<(StatedQuad<'_>, &str)>, NoMemory>
     ensures { IfOk result (Reads (λ x. (x.0, x.1.now)) (BeginsWithTerms text.now)) }
 {
@@ -80,6 +82,7 @@ fn ends_statement(text: &str) -> bool
 }
 
 // What the line states: no quad, or one.
+#[inline(always)]
 fn stated(alloc: Global, line: &str) -> Result<Option<StatedQuad<'_>>, LineFault>
     ensures ok { IfOk result (States line.now) }
     ensures err { IfErr result (IsFaultOf line.now) }
@@ -98,6 +101,7 @@ fn stated(alloc: Global, line: &str) -> Result<Option<StatedQuad<'_>>, LineFault
     }
 }
 
+#[inline(always)]
 fn is_absolute_resource(resource: &Resource<'_>) -> bool
     ensures { IsTrue result ↔ IsAbsoluteResource resource.now }
 {
@@ -107,6 +111,7 @@ fn is_absolute_resource(resource: &Resource<'_>) -> bool
     }
 }
 
+#[inline(always)]
 fn is_absolute_object(object: &Object<'_>) -> bool
     ensures { IsTrue result ↔ IsAbsoluteObject object.now }
 {
@@ -117,6 +122,7 @@ fn is_absolute_object(object: &Object<'_>) -> bool
 }
 
 // Whether each IRI of the quad has a scheme.
+#[inline(always)]
 fn is_absolute(quad: &StatedQuad<'_>) -> bool
     ensures { IsTrue result ↔ IsAbsolute quad.now }
 {

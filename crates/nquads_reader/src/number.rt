@@ -7,6 +7,7 @@ ghost use Rattle.nquads_reader.specs.Reading.{IsValidQuad, TakesQuad};
 use crate::quad::{Object, Resource, StatedQuad};
 use rdf_terms::{Draft, LabelRef, NoMemory, StatementRef, TermRef};
 
+#[inline(always)]
 fn resource_term<'a>(draft: &mut Draft, resource: &'a Resource<'_>) -> Result<TermRef<'a>, NoMemory>
     requires { length draft.old.labels < 4294967295 }
     ensures term { IfOk result (λ t. IsResourceTerm draft.new.labels resource.now (term_of t)) }
@@ -23,6 +24,7 @@ fn resource_term<'a>(draft: &mut Draft, resource: &'a Resource<'_>) -> Result<Te
     }
 }
 
+#[inline(always)]
 fn object_term<'a>(draft: &mut Draft, object: &'a Object<'_>) -> Result<TermRef<'a>, NoMemory>
     requires { length draft.old.labels < 4294967295 }
     ensures term { IfOk result (λ t. IsObjectTerm draft.new.labels object.now (term_of t)) }
@@ -36,6 +38,7 @@ fn object_term<'a>(draft: &mut Draft, object: &'a Object<'_>) -> Result<TermRef<
     }
 }
 
+#[inline(always)]
 fn graph_name_term<'a>(
     draft: &mut Draft,
     graph_name: &'a Option<Resource<'_>>,

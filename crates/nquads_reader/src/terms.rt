@@ -18,6 +18,7 @@ use terminals::{Grammar, Quote, Spelling, after, blank_node_label, iriref, langt
 const XSD_STRING: &str = "http://www.w3.org/2001/XMLSchema#string";
 
 // The characters that are spelled.
+#[inline(always)]
 fn spelled<'a>(alloc: Global, spelling: Spelling<'a>) -> Result<StatedText<'a>, NoMemory>
     ensures { (value : Text) → TextSpells spelling.entry.body spelling.entry.text.now value → (spelling.entry.has_escapes ≡ false → spelling.entry.text.now ≡ value) → IfOk result (λ text. text ≡ value) }
 {
@@ -31,6 +32,7 @@ fn spelled<'a>(alloc: Global, spelling: Spelling<'a>) -> Result<StatedText<'a>, 
 
 // Each function below answers what stands at the front of the text, and what follows it.
 
+#[inline(always)]
 pub fn iri(alloc: Global, text: &str) -> Result<Option<(StatedText<'_>, &str)>, NoMemory>
     ensures { IfOk result (Reads (λ x. (x.0, x.1.now)) (BeginsWithIri text.now)) }
 {
@@ -40,6 +42,7 @@ pub fn iri(alloc: Global, text: &str) -> Result<Option<(StatedText<'_>, &str)>, 
     Ok(Some((spelled(alloc, spelling)?, rest)))
 }
 
+#[inline(always)]
 fn string(alloc: Global, text: &str) -> Result<Option<(StatedText<'_>, &str)>, NoMemory>
     ensures { IfOk result (Reads (λ x. (x.0, x.1.now)) (BeginsWithString text.now)) }
 {
@@ -49,6 +52,7 @@ fn string(alloc: Global, text: &str) -> Result<Option<(StatedText<'_>, &str)>, N
     Ok(Some((spelled(alloc, spelling)?, rest)))
 }
 
+#[inline(always)]
 pub fn resource(alloc: Global, text: &str) -> Result<Option<(Resource<'_>, &str)>, NoMemory>
     ensures { IfOk result (Reads (λ x. (x.0, x.1.now)) (BeginsWithResource text.now)) }
 {
@@ -108,6 +112,7 @@ fn suffix(alloc: Global, text: &str) -> Result<Option<(Suffix<'_>, &str)>, NoMem
     }
 }
 
+#[inline(always)]
 fn literal(alloc: Global, text: &str) -> Result<Option<(StatedLiteral<'_>, &str)>, NoMemory>
     ensures { IfOk result (Reads (λ x. (x.0, x.1.now)) (BeginsWithLiteral text.now)) }
 {
@@ -120,6 +125,7 @@ fn literal(alloc: Global, text: &str) -> Result<Option<(StatedLiteral<'_>, &str)
     Ok(Some((StatedLiteral::new(lexical, suffix), rest)))
 }
 
+#[inline(always)]
 pub fn object(alloc: Global, text: &str) -> Result<Option<(Object<'_>, &str)>, NoMemory>
     ensures { IfOk result (Reads (λ x. (x.0, x.1.now)) (BeginsWithObject text.now)) }
 {

@@ -7,7 +7,7 @@ use crate::fronts::after;
 use crate::{Body, Quote, Spelling, run};
 
 // Spelled characters between two marks at the front, and what follows them.
-#[inline]
+#[inline(always)]
 fn between(text: &str, first: char, last: char, body: Body) -> Option<(Spelling<'_>, &str)>
     requires opens { first < 128 }
     requires closes { last < 128 }

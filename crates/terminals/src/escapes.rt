@@ -106,7 +106,7 @@ fn string_escape(text: &str) -> Option<(char, &str)>
 
 // The escape at the front, where the body allows it: the character that it stands for, and what
 // follows it. Most runs end where no `\` stands, so that is tried first.
-#[inline]
+#[inline(always)]
 pub(crate) fn escape(text: &str, body: Body) -> Option<(char, &str)>
     ensures found { IfSome result (λ x. BeginsWithOne (IsEscape body) text.now x.0 x.1.now) }
     ensures none { IfNone result (BeginsWithNoOne (IsEscape body) text.now) }
