@@ -1,6 +1,6 @@
 -- The classes of characters in the grammars of RDF 1.1 N-Quads (section 4) and RDF 1.1 TriG (section 4.5), each under the name that it has there.
-use Rattle.std.specs.Prelude.{[], ◌∷◌, ◌++◌}
-use Rattle.char_tables.specs.Rows.{Rows}
+use Rattle.std.specs.Prelude.{ℕ, Bool, not, [], ◌∷◌, ◌++◌}
+use Rattle.char_tables.specs.Rows.{Rows, is_in}
 
 -- PN_CHARS_BASE, the same in both
 abbrev pub pn_chars_base : Rows
@@ -25,6 +25,10 @@ pn_chars = pn_chars_u_trig ++ (0x2D, 0x2D) ∷ (0x30, 0x39) ∷ (0xB7, 0xB7) ∷
 abbrev pub excluded_from_iriref : Rows
 excluded_from_iriref =
     (0x00, 0x20) ∷ (0x22, 0x22) ∷ (0x3C, 0x3C) ∷ (0x3E, 0x3E) ∷ (0x5C, 0x5C) ∷ (0x5E, 0x5E) ∷ (0x60, 0x60) ∷ (0x7B, 0x7D) ∷ []
+
+-- whether the character may stand unescaped in an IRIREF
+abbrev pub may_stand_in_iriref : ℕ → Bool
+may_stand_in_iriref c = not (is_in excluded_from_iriref c)
 
 -- HEX
 abbrev pub hex : Rows

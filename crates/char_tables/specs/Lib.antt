@@ -1,2 +1,3 @@
 pub mod Rows
 pub mod Classes
+pub mod Lanes

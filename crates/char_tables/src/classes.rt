@@ -90,7 +90,7 @@ pub fn is_iri_char(c: char) -> bool
 /// Whether the character with this code point may stand unescaped in an IRIREF. All from 0x80 on
 /// may, so a text in UTF-8 can be tested byte by byte.
 #[inline]
-pub fn is_iri_byte(byte: u8) -> bool
+pub(crate) fn is_iri_byte(byte: u8) -> bool
     ensures { result ≡ not (is_in excluded_from_iriref byte) }
 {
     IRI_BYTES[byte as usize] != b'|'

@@ -4,7 +4,7 @@ ghost use Rattle.terminals.specs.Spellings.{stands_for_itself, BeginsWithRun, Te
 
 use crate::escapes::escape;
 use crate::{Body, Quote};
-use char_tables::is_iri_byte;
+use char_tables::iri_len;
 use rdf_terms::NoMemory;
 
 /// Characters as they are spelled between two marks.
@@ -24,10 +24,7 @@ fn plain_iri_len(text: &str) -> usize
     ensures is { result ≡ prefix_len (stands_for_itself Body.Iri) text.now }
     ensures within { result ≤ length text.now }
 {
-    text.as_bytes()
-        .iter()
-        .take_while(|byte| is_iri_byte(**byte))
-        .count()
+    iri_len(text.as_bytes())
 }
 
 // How many bytes at the front stand for themselves in a string between two quotes.
