@@ -3,11 +3,23 @@ ghost use Rattle.std.specs.List.{prefix_len};
 ghost use Rattle.iri_resolve.specs.Scheme.{begins_with_scheme};
 ghost use Rattle.rdf_terms.specs.Terms.{is_scheme_byte, HasScheme};
 
+// A letter, a digit, `+`, `-` or `.` for itself, and for any other byte a `|`.
+static SCHEME_BYTES: [u8; 256] = *b"\
+    ||||||||||||||||||||||||||||||||\
+    |||||||||||+|-.|0123456789||||||\
+    |ABCDEFGHIJKLMNOPQRSTUVWXYZ|||||\
+    |abcdefghijklmnopqrstuvwxyz|||||\
+    ||||||||||||||||||||||||||||||||\
+    ||||||||||||||||||||||||||||||||\
+    ||||||||||||||||||||||||||||||||\
+    ||||||||||||||||||||||||||||||||";
+
 // Whether the byte may follow the first letter of a scheme.
+#[inline]
 fn goes_on(byte: u8) -> bool
     ensures { result ≡ is_scheme_byte byte }
 {
-    byte.is_ascii_alphanumeric() || byte == b'+' || byte == b'-' || byte == b'.'
+    SCHEME_BYTES[byte as usize] != b'|'
 }
 
 // How many bytes at the front may stand in a scheme.

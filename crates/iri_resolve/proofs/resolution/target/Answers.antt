@@ -1,4 +1,3 @@
-use Rattle.std.proofs.Common.{sym}
 use Rattle.iri_resolve.specs.Parts.{components_of}
 use Rattle.iri_resolve.proofs.Targets.{target-scheme, target-authority, target-below, is_some-option_copied, option_copied-or}
 use Rattle.iri_resolve.proofs.resolution.target.Goals as goal
