@@ -1,14 +1,8 @@
 -- The derived `==` of terms, labels and quads tells which are equal.
-use Rattle.std.proofs.Common.{◌≡◌, ℕ, Bool, true, false, ◌&&◌, Option, Some, None, refl, sym, ap, true≢false, eqb}
-use Rattle.std.specs.Str.{bytes_eq}
+use Rattle.std.proofs.Common.{◌≡◌, ℕ, true, ◌&&◌, Option, Some, None, refl, sym, ap, true≢false, eqb}
 use Rattle.std.specs.Option.{option_eq}
 use Rattle.std.proofs.lemmas.Slice.Eq.{bytes_eq-Decides}
 use Rattle.std.proofs.lemmas.Bool.{eqb-true}
-use Rattle.rdf_terms.specs.declared.term.Term.{Term}
-use Rattle.rdf_terms.specs.declared.term.Term.TheVariants.{Iri, Blank, Literal}
-use Rattle.rdf_terms.specs.declared.term.Literal.{Literal as LiteralValue}
-use Rattle.rdf_terms.specs.declared.term.LiteralKind.{LiteralKind}
-use Rattle.rdf_terms.specs.declared.term.LiteralKind.TheVariants.{Typed, Tagged}
 use Rattle.rdf_terms.specs.declared.term.Label.{Label}
 use Rattle.rdf_terms.specs.declared.term.Label.TheVariants.{Named, Anonymous}
 use Rattle.rdf_terms.specs.declared.term.Quad.{Quad}
@@ -16,39 +10,10 @@ use Rattle.rdf_terms.specs.contracts.term.TermPartialEq.TheImpl.{eq-value as eq-
 use Rattle.rdf_terms.specs.contracts.term.TermEq.TheImpl.Laws.{laws-law as term_law}
 use Rattle.rdf_terms.specs.contracts.term.LabelPartialEq.TheImpl.{eq-value as eq-label}
 use Rattle.rdf_terms.specs.contracts.term.LabelEq.TheImpl.Laws.{laws-law as label_law}
-use Rattle.rdf_terms.specs.contracts.term.LiteralPartialEq.TheImpl.{eq-value as eq-literal}
-use Rattle.rdf_terms.specs.contracts.term.LiteralKindPartialEq.TheImpl.{eq-value as eq-kind}
 use Rattle.rdf_terms.specs.contracts.term.QuadPartialEq.TheImpl.{eq-value as eq-quad}
 use Rattle.rdf_terms.specs.contracts.term.QuadEq.TheImpl.Laws.{laws-law as quad_law}
+use Rattle.rdf_terms.specs.SameTerm.{both, same_term}
 use Rattle.rdf_terms.proofs.Membership.{TellsEqual}
-
-both : (x y : Bool) → (x && y) ≡ true → (x ≡ true) × (y ≡ true)
-both true y h = (refl, h)
-both false y h = absurd (true≢false (sym h))
-
-same_kind : (a b : LiteralKind) → eq-kind.it a b ≡ true → a ≡ b
-same_kind (Typed a) (Typed b) h = ap Typed ((bytes_eq-Decides a b).0 h)
-same_kind (Tagged a) (Tagged b) h = ap Tagged ((bytes_eq-Decides a b).0 h)
-same_kind (Typed a) (Tagged b) h = absurd (true≢false (sym h))
-same_kind (Tagged a) (Typed b) h = absurd (true≢false (sym h))
-
-same_literal : (a b : LiteralValue) → eq-literal.it a b ≡ true → a ≡ b
-same_literal a b h =
-    let p = both (bytes_eq a.lexical b.lexical) (eq-kind.it a.kind b.kind) h in
-    let l : a.lexical ≡ b.lexical = (bytes_eq-Decides a.lexical b.lexical).0 p.0 in
-    let k : a.kind ≡ b.kind = same_kind a.kind b.kind p.1 in
-    λ i. record { lexical = l i; kind = k i }
-
-same_term : (a b : Term) → eq-term.it a b ≡ true → a ≡ b
-same_term (Iri a) (Iri b) h = ap Iri ((bytes_eq-Decides a b).0 h)
-same_term (Iri a) (Blank b) h = absurd (true≢false (sym h))
-same_term (Iri a) (Literal b) h = absurd (true≢false (sym h))
-same_term (Blank a) (Blank b) h = ap Blank (eqb-true a b h)
-same_term (Blank a) (Iri b) h = absurd (true≢false (sym h))
-same_term (Blank a) (Literal b) h = absurd (true≢false (sym h))
-same_term (Literal a) (Literal b) h = ap Literal (same_literal a b h)
-same_term (Literal a) (Iri b) h = absurd (true≢false (sym h))
-same_term (Literal a) (Blank b) h = absurd (true≢false (sym h))
 
 same_label : (a b : Label) → eq-label.it a b ≡ true → a ≡ b
 same_label (Named a) (Named b) h = ap Named ((bytes_eq-Decides a b).0 h)

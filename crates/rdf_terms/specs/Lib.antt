@@ -3,6 +3,8 @@ pub mod Lists
 pub mod Numeral
 pub mod Terms
 pub mod References
+pub mod Digest
+pub mod SameTerm
 pub mod ReferenceHash
 pub mod Dataset
 pub mod Isomorphism

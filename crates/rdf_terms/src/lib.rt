@@ -11,6 +11,7 @@ pub use term_ref::{LabelRef, LiteralKindRef, LiteralRef, StatementRef, TermRef};
 pub use term_text::TermText;
 
 mod bytes;
+mod digest;
 mod draft;
 mod finish;
 mod inline_text;

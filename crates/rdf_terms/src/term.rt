@@ -3,7 +3,7 @@ use crate::TermText;
 /// A term of RDF (RDF 1.1 Concepts, section 3): an IRI, a blank node or a literal.
 ///
 /// A blank node is known by its number in its document, counted from 0.
-#[derive(Debug, PartialEq, Eq, Hash, Drop)]
+#[derive(Debug, PartialEq, Eq, Drop)]
 pub enum Term {
     Iri(TermText),
     Blank(u32),

@@ -6,9 +6,9 @@ ghost use Rattle.rdf_terms.specs.contracts.term.LiteralPartialEq.TheImpl.{eq-val
 ghost use Rattle.rdf_terms.specs.contracts.term.LiteralKindPartialEq.TheImpl.{eq-value as eq_kind};
 ghost use Rattle.rdf_terms.specs.contracts.term.TermEq.TheImpl.Laws.{laws-law as term_law};
 ghost use Rattle.rdf_terms.specs.contracts.term.LabelEq.TheImpl.Laws.{laws-law as label_law};
-ghost use Rattle.rdf_terms.specs.contracts.term.TermHash.TheImpl.Laws.{respects_eq-law as alike_terms};
 ghost use Rattle.rdf_terms.specs.contracts.term.LabelHash.TheImpl.Laws.{respects_eq-law as alike_labels};
-ghost use Rattle.rdf_terms.specs.ReferenceHash.{hash-term_of, hash-label_of};
+ghost use Rattle.rdf_terms.specs.ReferenceHash.{hash-label_of};
+ghost use Rattle.rdf_terms.specs.SameTerm.{terms_fed_alike};
 ghost use Rattle.std.proofs.Common.{◌∙◌};
 
 use crate::{Label, Literal, LiteralKind, NoMemory, Term, TermText};
@@ -16,7 +16,7 @@ use indexmap::Equivalent;
 use std::alloc::Global;
 
 /// A term whose texts lie elsewhere, as in the line that states it.
-#[derive(Clone, Copy, Debug, PartialEq, Eq, Hash)]
+#[derive(Clone, Copy, Debug, PartialEq, Eq)]
 pub enum TermRef<'a> {
     Iri(&'a str),
     Blank(u32),
@@ -159,7 +159,7 @@ impl LiteralRef<'_> {
 impl Equivalent<Term> for TermRef<'_> {
     ghost equivalent = { λ q k. eq_term.it (term_of q) k };
 
-    ghost respects_hash = { λ q k h. hash-term_of q ∙ alike_terms (term_of q) k h };
+    ghost respects_hash = { λ q k h. terms_fed_alike (term_of q) k h };
 
     ghost respects_eq = { λ q. term_law.congr (term_of q) };
 
