@@ -52,7 +52,7 @@ map-statement-extends ts us qs e h = rw e.1 (statements_more ts e.0 qs h)
 
 -- ---- what numbering a statement's terms gives
 
-kept : (old new : List Term) (n : ℕ) (t : Term) → Extends old new → slice_get old n ≡ Some t → slice_get new n ≡ Some t
+pub kept : (old new : List Term) (n : ℕ) (t : Term) → Extends old new → slice_get old n ≡ Some t → slice_get new n ≡ Some t
 kept old new n t e h = rw e.1 (grind (arith, elements, slice_get_within old n t h, slice_get-get_or (old ++ e.0) n t, get_or_from_slice_get old n t t h))
 
 module _ (old new : List Term) (t : Term) (n : ℕ) (h : Interns old new t n) where

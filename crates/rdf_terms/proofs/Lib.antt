@@ -2,6 +2,8 @@ pub mod Membership
 pub mod SameTerm
 pub mod Growing
 pub mod Adding
+pub mod AddingAll
+pub mod KnownEnds
 pub mod Naming
 pub mod Moving
 pub mod Permutations

@@ -55,6 +55,11 @@ Extends {A} old new = (more : List A) × (new ≡ old ++ more)
 abbrev pub Adds : {A : Type 0} → List A → A → List A → Type 0
 Adds old x new = ((new ≡ old) × In x old) ⊎ ((new ≡ old ++ x ∷ []) × (¬ (In x old)))
 
+-- the elements of xs that old lacks are at the end of new, each once, in order of first appearance
+abbrev pub AddsAll : {A : Type 0} → List A → List A → List A → Type 0
+AddsAll old [] new = new ≡ old
+AddsAll {A} old (x ∷ xs) new = (next : List A) × Adds old x next × AddsAll next xs new
+
 -- the element is added, and n is its number in the new list
 pub record Interns {A : Type 0} (old new : List A) (x : A) (n : ℕ) : Type 0 where
   pub at : slice_get new n ≡ Some x
@@ -71,6 +76,19 @@ pub record Numbers (old new : List Term) (st : Statement) (q : Quad) : Type 0 wh
   pub bound : length new ≤ length old + 4
   pub more : (t : Term) → In t new → In t old ⊎ IsTermOf t st
   pub known : ((t : Term) → IsTermOf t st → In t old) → new ≡ old
+
+-- the statement is numbered, and the table that has grown has each term once
+pub record NumbersNext (old : List Term) (st : Statement) (q : Quad) (new : List Term) : Type 0 where
+  pub numbers : Numbers old new st q
+  pub extends : Extends old new
+  pub distinct : AreDistinct new
+
+-- one statement after the other is numbered, by a table that grows from old to new
+abbrev pub NumbersAll : List Term → List Statement → List Quad → List Term → Type 0
+NumbersAll old [] [] new = new ≡ old
+NumbersAll old [] (q ∷ qs) new = ⊥
+NumbersAll old (st ∷ sts) [] new = ⊥
+NumbersAll old (st ∷ sts) (q ∷ qs) new = (next : List Term) × NumbersNext old st q next × NumbersAll next sts qs new
 
 -- ---- validity
 

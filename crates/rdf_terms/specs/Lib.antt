@@ -10,3 +10,5 @@ pub mod Dataset
 pub mod Isomorphism
 pub mod CanonicalForm
 pub mod Document
+pub mod Ends
+pub mod DigestedTerm

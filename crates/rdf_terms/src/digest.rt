@@ -32,8 +32,8 @@ fn text_of_kind(kind: LiteralKindRef<'_>) -> &str
     }
 }
 
-// The number by which a table finds the term.
-fn term_digest(term: TermRef<'_>) -> u64
+/// The number by which a table finds the term.
+pub(crate) fn term_digest(term: TermRef<'_>) -> u64
     ensures { result ≡ term_digest (term_of term.entry) }
 {
     match term {

@@ -1,11 +1,13 @@
-ghost use Rattle.std.specs.Prelude.{◌≡◌, ℕ, ◌<◌, ◌≤◌, ◌+◌, ◌↔◌, [], length, IfOk, OnErr, IsTrue};
-ghost use Rattle.rdf_terms.specs.Lists.{In, AreDistinct};
+ghost use Rattle.std.specs.Prelude.{◌≡◌, ℕ, ◌<◌, ◌≤◌, ◌+◌, ◌↔◌, [], length, map, All, IfOk, OnOk, OnErr, IsTrue};
+ghost use Rattle.rdf_terms.specs.Lists.{In};
 ghost use Rattle.rdf_terms.specs.Terms.{IsValidStatement};
 ghost use Rattle.rdf_terms.specs.Dataset.{IsUsed};
-ghost use Rattle.rdf_terms.specs.Document.{statements, Extends, Adds, Interns, Numbers, Finishes};
+ghost use Rattle.rdf_terms.specs.Document.{statements, Adds, AddsAll, Interns, Finishes};
 ghost use Rattle.rdf_terms.specs.References.{statement_of, graph_name_of, label_of};
 
+use crate::ends::DigestedEnds;
 use crate::finish::{are_all_used, new_numbers, used_labels, used_nodes};
+use crate::numbering::{insert_all, number_all, number_terms};
 use crate::{Label, LabelRef, NoMemory, Parsed, Quad, StatementRef, Term, TermRef, TermTable};
 use indexmap::IndexSet;
 use std::alloc::Global;
@@ -28,28 +30,6 @@ impl Model for Draft {
     ghost view = { λ d. record { terms = d.terms; quads = d.quads.keys; labels = d.labels.keys } };
 
     ghost invariant = { λ d. IsDraft (record { terms = d.terms; quads = d.quads.keys; labels = d.labels.keys }) };
-}
-
-// The quad of these terms, which get numbers where they have none.
-fn number_terms(
-    alloc: Global,
-    terms: &mut TermTable,
-    quad: StatementRef<'_>,
-) -> Result<Quad, NoMemory>
-    requires { length terms.old + 4 ≤ 4294967295 }
-    ensures numbers { IfOk result (Numbers terms.old terms.new (statement_of quad.entry)) }
-    ensures extends { Extends terms.old terms.new }
-    ensures distinct { AreDistinct terms.new }
-{
-    // The predicate, most often in the cache, is looked up while the object's entry is fetched.
-    let s = terms.intern_ref(alloc, quad.subject)?;
-    let o = terms.intern_ref(alloc, quad.object)?;
-    let p = terms.intern_ref(alloc, quad.predicate)?;
-    let g = match quad.graph_name {
-        Some(graph_name) => Some(terms.intern_ref(alloc, graph_name)?),
-        None => None,
-    };
-    Ok(Quad { s, p, o, g })
 }
 
 fn graph_name_ref(graph_name: &Option<Term>) -> Option<TermRef<'_>>
@@ -138,7 +118,8 @@ impl Draft {
         ensures err { OnErr result (self.new ≡ self.old) }
     {
         let before = self.terms.len();
-        let Ok(quad) = number_terms(self.alloc, &mut self.terms, quad) else {
+        let known = DigestedEnds::new(&quad).find(&self.terms);
+        let Ok(quad) = number_terms(self.alloc, &mut self.terms, quad, known) else {
             self.terms.truncate(before);
             return Err(NoMemory);
         };
@@ -147,6 +128,29 @@ impl Draft {
             return Err(NoMemory);
         };
         Ok(new)
+    }
+
+    /// The same as `add_ref` for each of these quads, in their order. Where memory is refused, none
+    /// of them is added.
+    pub fn add_all(&mut self, quads: &[StatementRef<'_>]) -> Result<(), NoMemory>
+        requires valid { All (λ q. IsValidStatement (length self.old.labels) (statement_of q)) quads.now }
+        requires room { length self.old.quads + length quads.now ≤ 1000000000 }
+        ensures adds { OnOk result (AddsAll (statements self.old) (map statement_of quads.now) (statements self.new)) }
+        ensures labels { self.new.labels ≡ self.old.labels }
+        ensures err { OnErr result (self.new ≡ self.old) }
+    {
+        let terms_before = self.terms.len();
+        let quads_before = self.quads.len();
+        let Ok(numbered) = number_all(self.alloc, &mut self.terms, quads) else {
+            self.terms.truncate(terms_before);
+            return Err(NoMemory);
+        };
+        let Ok(()) = insert_all(&mut self.quads, &numbered) else {
+            self.terms.truncate(terms_before);
+            self.quads.truncate(quads_before);
+            return Err(NoMemory);
+        };
+        Ok(())
     }
 
     /// The number of distinct quads.

@@ -12,10 +12,13 @@ pub use term_text::TermText;
 
 mod bytes;
 mod digest;
+mod digested_term;
 mod draft;
+mod ends;
 mod finish;
 mod inline_text;
 mod memory;
+mod numbering;
 mod parsed;
 mod table;
 mod term;

@@ -4,8 +4,10 @@ ghost use Rattle.rdf_terms.specs.Lists.{In, AreDistinct};
 ghost use Rattle.rdf_terms.specs.Isomorphism.{relabel_term};
 ghost use Rattle.rdf_terms.specs.Document.{Interns, number_in};
 ghost use Rattle.rdf_terms.specs.References.{term_of};
+ghost use Rattle.rdf_terms.specs.Ends.{number_of};
 ghost use Rattle.rdf_terms.specs.declared.term.Term.TheVariants.{Blank};
 
+use crate::digested_term::DigestedTerm;
 use crate::{NoMemory, Term, TermRef};
 use indexmap::IndexSet;
 use std::alloc::Global;
@@ -108,6 +110,33 @@ impl TermTable {
     {
         let index = self.terms.get_index_of(term)?;
         Some(index as u32)
+    }
+
+    // The same as `find`, of a term whose digest is at hand.
+    #[inline]
+    pub(crate) fn find_digested(&self, term: DigestedTerm<'_>) -> Option<u32>
+        ensures { result ≡ number_of self.now (term_of term.entry.term) }
+    {
+        let index = self.terms.get_index_of(term)?;
+        Some(index as u32)
+    }
+
+    // The same as `intern`, of a term whose number is at hand where the table has had it.
+    pub(crate) fn intern_known(
+        &mut self,
+        alloc: Global,
+        term: TermRef<'_>,
+        known: Option<u32>,
+    ) -> Result<u32, NoMemory>
+        requires room { length self.old < 4294967295 }
+        requires known { IfSome known (λ n. slice_get self.old n ≡ Some (term_of term)) }
+        ensures ok { IfOk result (Interns self.old self.new (term_of term.entry)) }
+        ensures err { OnErr result (self.new ≡ self.old) }
+    {
+        match known {
+            Some(number) => Ok(number),
+            None => self.intern(term.to_term(alloc)?),
+        }
     }
 
     /// The terms by number.

@@ -1,5 +1,5 @@
 use Rattle.rdf_terms.proofs.Growing.{Numbers-three, Numbers-four, Extends-four}
-use Rattle.rdf_terms.proofs.draft.number_terms.Goals as goal
+use Rattle.rdf_terms.proofs.numbering.number_terms.Goals as goal
 
 pub returns-in_ok-intern_ref-in-Some-clause-numbers : goal.returns-in_ok-intern_ref-in-Some-clause-numbers
 returns-in_ok-intern_ref-in-Some-clause-numbers c =

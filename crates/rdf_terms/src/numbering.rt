@@ -1,0 +1,64 @@
+ghost use Rattle.std.specs.Prelude.{◌≡◌, ◌≤◌, ◌+◌, ◌*◌, length, map, Some, IfSome, IfOk, OnOk, slice_get};
+ghost use Rattle.rdf_terms.specs.Lists.{AreDistinct};
+ghost use Rattle.rdf_terms.specs.Document.{Extends, AddsAll, Numbers, NumbersAll};
+ghost use Rattle.rdf_terms.specs.References.{statement_of, term_of};
+
+use crate::ends::{KnownEnds, known_ends};
+use crate::{NoMemory, Quad, StatementRef, TermTable};
+use indexmap::IndexSet;
+use std::alloc::Global;
+
+/// The quad of these terms, which get numbers where they have none. The known ends are those of
+/// this quad. Where memory is refused, terms that came before stay in the table.
+pub(crate) fn number_terms(
+    alloc: Global,
+    terms: &mut TermTable,
+    quad: StatementRef<'_>,
+    known: KnownEnds,
+) -> Result<Quad, NoMemory>
+    requires room { length terms.old + 4 ≤ 4294967295 }
+    requires subject { IfSome known.subject (λ n. slice_get terms.old n ≡ Some (term_of quad.subject)) }
+    requires object { IfSome known.object (λ n. slice_get terms.old n ≡ Some (term_of quad.object)) }
+    ensures numbers { IfOk result (Numbers terms.old terms.new (statement_of quad.entry)) }
+    ensures extends { Extends terms.old terms.new }
+    ensures distinct { OnOk result (AreDistinct terms.new) }
+{
+    let s = terms.intern_known(alloc, quad.subject, known.subject)?;
+    let o = terms.intern_known(alloc, quad.object, known.object)?;
+    let p = terms.intern_ref(alloc, quad.predicate)?;
+    let g = match quad.graph_name {
+        Some(graph_name) => Some(terms.intern_ref(alloc, graph_name)?),
+        None => None,
+    };
+    Ok(Quad { s, p, o, g })
+}
+
+/// The quads of these statements, whose terms get numbers where they have none. Where memory is
+/// refused, terms that came before stay in the table.
+pub(crate) fn number_all(
+    alloc: Global,
+    terms: &mut TermTable,
+    quads: &[StatementRef<'_>],
+) -> Result<Vec<Quad>, NoMemory>
+    requires { length terms.old + 4 * length quads.now ≤ 4294967295 }
+    ensures numbers { IfOk result (λ numbered. NumbersAll terms.old (map statement_of quads.now) numbered.items terms.new) }
+    ensures extends { Extends terms.old terms.new }
+{
+    let known = known_ends(alloc, terms, quads)?;
+    let mut numbered = Vec::with_capacity(alloc, quads.len())?;
+    for (place, quad) in quads.iter().enumerate() {
+        numbered.push(number_terms(alloc, terms, *quad, known[place])?)?;
+    }
+    Ok(numbered)
+}
+
+/// Inserts the quads in their order. Where memory is refused, those before stay in the set.
+pub(crate) fn insert_all(quads: &mut IndexSet<Quad>, numbered: &[Quad]) -> Result<(), NoMemory>
+    ensures adds { OnOk result (AddsAll quads.old.keys numbered.now quads.new.keys) }
+    ensures extends { Extends quads.old.keys quads.new.keys }
+{
+    for quad in numbered {
+        quads.insert(*quad)?;
+    }
+    Ok(())
+}
