@@ -12,3 +12,4 @@ pub mod CanonicalForm
 pub mod Document
 pub mod Ends
 pub mod DigestedTerm
+pub mod NodeNumber

@@ -24,6 +24,11 @@ impl<'a> DigestedTerm<'a> {
         let digest = term_digest(term);
         DigestedTerm { term, digest }
     }
+
+    #[inline]
+    pub(crate) fn digest(&self) -> u64 {
+        self.digest
+    }
 }
 
 impl Hash for DigestedTerm<'_> {

@@ -18,6 +18,7 @@ mod ends;
 mod finish;
 mod inline_text;
 mod memory;
+mod node_number;
 mod numbering;
 mod parsed;
 mod table;

@@ -52,11 +52,32 @@ pub(crate) fn number_all(
     Ok(numbered)
 }
 
+// How many of the quads the set lacks.
+fn count_new(quads: &IndexSet<Quad>, numbered: &[Quad]) -> usize {
+    numbered
+        .iter()
+        .filter(|quad| !quads.contains(*quad))
+        .count()
+}
+
+/// Makes room for those of the quads that the set lacks.
+///
+/// To count them, each is looked for. Here no look waits for the one before it, so that the memory
+/// of many is fetched at a time, and when the quads are inserted it is at hand.
+fn make_room(quads: &mut IndexSet<Quad>, numbered: &[Quad]) -> Result<(), NoMemory>
+    ensures { quads.new.keys ≡ quads.old.keys }
+{
+    let count = count_new(quads, numbered);
+    quads.reserve(count)?;
+    Ok(())
+}
+
 /// Inserts the quads in their order. Where memory is refused, those before stay in the set.
 pub(crate) fn insert_all(quads: &mut IndexSet<Quad>, numbered: &[Quad]) -> Result<(), NoMemory>
     ensures adds { OnOk result (AddsAll quads.old.keys numbered.now quads.new.keys) }
     ensures extends { Extends quads.old.keys quads.new.keys }
 {
+    make_room(quads, numbered)?;
     for quad in numbered {
         quads.insert(*quad)?;
     }

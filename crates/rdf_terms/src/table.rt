@@ -8,6 +8,7 @@ ghost use Rattle.rdf_terms.specs.Ends.{number_of};
 ghost use Rattle.rdf_terms.specs.declared.term.Term.TheVariants.{Blank};
 
 use crate::digested_term::DigestedTerm;
+use crate::node_number::NodeNumber;
 use crate::{NoMemory, Term, TermRef};
 use indexmap::IndexSet;
 use std::alloc::Global;
@@ -119,6 +120,20 @@ impl TermTable {
     {
         let index = self.terms.get_index_of(term)?;
         Some(index as u32)
+    }
+
+    // Whether the node with this number has a term in the table.
+    #[inline]
+    pub(crate) fn has_node(&self, number: u64) -> bool {
+        self.terms.contains(NodeNumber(number))
+    }
+
+    // Makes room for so many more terms.
+    pub(crate) fn reserve(&mut self, terms: usize) -> Result<(), NoMemory>
+        ensures { self.new ≡ self.old }
+    {
+        self.terms.reserve(terms)?;
+        Ok(())
     }
 
     // The same as `intern`, of a term whose number is at hand where the table has had it.

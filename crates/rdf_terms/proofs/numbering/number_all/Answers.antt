@@ -10,12 +10,12 @@ use Rattle.rdf_terms.proofs.numbering.number_all.Goals as goal
 
 pub number_terms-requires-clause-subject : goal.number_terms-requires-clause-subject
 number_terms-requires-clause-subject c =
-    let known = known_at c.args.terms.now c.args.quads.now c.in_ok-known.known.items c.loop-place.place _ _ c.in_ok-known.ensures c.loop-place-test.true in
+    let known = known_at c.args.terms.now c.args.quads.now c.in_ok-known.known.items c.loop-place.place _ _ c.in_ok-known.ensures.known c.loop-place-test.true in
     known_there c.args.terms.now _ _ _ (ap (λ (k : KnownEnds). k.subject) (c.index.ensures ∙ known)) c.loop-place.invariant.extends
 
 pub number_terms-requires-clause-object : goal.number_terms-requires-clause-object
 number_terms-requires-clause-object c =
-    let known = known_at c.args.terms.now c.args.quads.now c.in_ok-known.known.items c.loop-place.place _ _ c.in_ok-known.ensures c.loop-place-test.true in
+    let known = known_at c.args.terms.now c.args.quads.now c.in_ok-known.known.items c.loop-place.place _ _ c.in_ok-known.ensures.known c.loop-place-test.true in
     known_there c.args.terms.now _ _ _ (ap (λ (k : KnownEnds). k.object) (c.index.ensures ∙ known)) c.loop-place.invariant.extends
 
 pub loop-place-preserved : goal.loop-place-preserved
