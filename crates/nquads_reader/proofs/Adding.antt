@@ -2,9 +2,9 @@
 use Rattle.std.proofs.Common.{Bool, List, [], ◌∷◌, ◌++◌, inr, refl, sym, subst, append_assoc, append-nil, if◌then◌else◌}
 use Rattle.std.specs.List.{list_any}
 use Rattle.rdf_terms.specs.Lists.{AreDistinct}
+use Rattle.rdf_terms.specs.Document.{AddsAll}
 use Rattle.rdf_terms.proofs.Membership.{TellsEqual, inserted}
 use Rattle.rdf_terms.proofs.Moving.{absent_before}
-use Rattle.nquads_reader.specs.Document.{AddsAll}
 
 pub add_all : {A : Type 0} (eq : A → A → Bool) → TellsEqual eq → (old xs : List A) → (new : List A) × AddsAll old xs new
 add_all eq tells old [] = (old, refl)

@@ -3,7 +3,7 @@ use Rattle.std.proofs.Common.{◌≡◌, ℕ, zero, suc, List, [], ◌∷◌, �
 use Rattle.std.specs.List.{AllZip}
 use Rattle.std.proofs.lemmas.Option.{slice_get_within}
 use Rattle.rdf_terms.specs.Terms.{Statement, IsIri, IsIriOrBlank, IsValidTerm, IsValidStatement}
-use Rattle.rdf_terms.specs.Document.{Document, Adds, Extends, statements}
+use Rattle.rdf_terms.specs.Document.{Document, Adds, AddsAll, Extends, statements}
 use Rattle.rdf_terms.specs.declared.term.Term.{Term}
 use Rattle.rdf_terms.specs.declared.term.Term.TheVariants.{Iri as IriTerm}
 use Rattle.rdf_terms.specs.declared.term.Label.{Label}
@@ -13,7 +13,7 @@ use Rattle.nquads_reader.specs.declared.quad.Resource.TheVariants.{Iri, Label as
 use Rattle.nquads_reader.specs.declared.quad.Object.{Object}
 use Rattle.nquads_reader.specs.declared.quad.Object.TheVariants.{Resource as ResourceObject, Literal as LiteralObject}
 use Rattle.nquads_reader.specs.declared.quad.StatedQuad.{StatedQuad}
-use Rattle.nquads_reader.specs.Document.{IsResourceTerm, IsObjectTerm, IsGraphNameTerm, IsStatementOf, AddsAll, labels_of_resource, labels_of_object, labels_of_graph_name, mentioned}
+use Rattle.nquads_reader.specs.Document.{IsResourceTerm, IsObjectTerm, IsGraphNameTerm, IsStatementOf, labels_of_resource, labels_of_object, labels_of_graph_name, mentioned}
 use Rattle.nquads_reader.specs.Reading.{IsValidResource, IsValidObject, IsValidQuad, TakesQuad}
 
 -- ---- adding

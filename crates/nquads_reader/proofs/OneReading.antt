@@ -3,7 +3,7 @@ use Rattle.std.proofs.Common.{◌≡◌, List, [], ◌∷◌, ◌++◌, inl, inr
 use Rattle.std.specs.List.{flat_map, AllZip}
 use Rattle.rdf_terms.specs.Lists.{Text, AreDistinct}
 use Rattle.rdf_terms.specs.Terms.{Statement}
-use Rattle.rdf_terms.specs.Document.{Adds}
+use Rattle.rdf_terms.specs.Document.{Adds, AddsAll}
 use Rattle.rdf_terms.specs.declared.term.Term.{Term}
 use Rattle.rdf_terms.specs.declared.term.Term.TheVariants.{Blank}
 use Rattle.rdf_terms.specs.declared.term.Label.{Label}
@@ -14,7 +14,7 @@ use Rattle.nquads_reader.specs.declared.quad.Resource.TheVariants.{Iri, Label as
 use Rattle.nquads_reader.specs.declared.quad.Object.{Object}
 use Rattle.nquads_reader.specs.declared.quad.Object.TheVariants.{Resource as ResourceObject, Literal as LiteralObject}
 use Rattle.nquads_reader.specs.declared.quad.StatedQuad.{StatedQuad}
-use Rattle.nquads_reader.specs.Document.{quads_in, AllState, mentioned, IsResourceTerm, IsObjectTerm, IsGraphNameTerm, IsStatementOf, AddsAll, AreRead}
+use Rattle.nquads_reader.specs.Document.{quads_in, AllState, mentioned, IsResourceTerm, IsObjectTerm, IsGraphNameTerm, IsStatementOf, AreRead}
 use Rattle.nquads_reader.proofs.LineTerms.{stated_same}
 use Rattle.nquads_reader.proofs.Used.{AddsAll-distinct}
 

@@ -5,6 +5,7 @@ use Rattle.std.proofs.lemmas.List.{get_or-map, length-map}
 use Rattle.std.proofs.lemmas.Option.{slice_get-get_or}
 use Rattle.rdf_terms.specs.Lists.{In, AreDistinct, numbers_below}
 use Rattle.rdf_terms.specs.Terms.{Statement, IsValidStatement}
+use Rattle.rdf_terms.specs.Document.{AddsAll}
 use Rattle.rdf_terms.specs.Dataset.{IsUsed}
 use Rattle.rdf_terms.specs.Isomorphism.{Relabelling}
 use Rattle.rdf_terms.specs.CanonicalForm.{Naming}
@@ -15,7 +16,7 @@ use Rattle.rdf_terms.proofs.Ranks.{In-numbers_below, AreDistinct-numbers_below, 
 use Rattle.canonical_writer.specs.Determined.{ListsNodes}
 use Rattle.canonical_writer.proofs.Partners.{partner, partner-at, partners, length-listed}
 use Rattle.canonical_writer.proofs.Placing.{place-found, place-here, In-get_or}
-use Rattle.nquads_reader.specs.Document.{mentioned, AddsAll}
+use Rattle.nquads_reader.specs.Document.{mentioned}
 use Rattle.nquads_reader.proofs.Used.{AddsAll-distinct, all_from, all_there}
 use Rattle.nquads_reader.proofs.WrittenQuads.{written_quad}
 use Rattle.nquads_reader.proofs.WrittenLabels.{name_label, IsName, quad_name, quad_label}

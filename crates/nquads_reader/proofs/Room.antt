@@ -1,7 +1,7 @@
 -- A line that states a quad has at least seven bytes, and a quad mentions at most three labels.
 use Rattle.std.proofs.Common.{◌+◌, ◌*◌, ◌≤◌, List, [], ◌∷◌, ◌++◌, Option, Some, None, inl, inr, length, ap, arith, length-append}
 use Rattle.rdf_terms.specs.Lists.{Text}
-use Rattle.rdf_terms.specs.Document.{Document, Adds, statements}
+use Rattle.rdf_terms.specs.Document.{Document, Adds, AddsAll, statements}
 use Rattle.rdf_terms.specs.declared.term.LiteralKind.{LiteralKind}
 use Rattle.rdf_terms.specs.declared.term.LiteralKind.TheVariants.{Typed, Tagged}
 use Rattle.nquads_reader.specs.declared.quad.Resource.{Resource}
@@ -10,7 +10,7 @@ use Rattle.nquads_reader.specs.declared.quad.Object.{Object}
 use Rattle.nquads_reader.specs.declared.quad.Object.TheVariants.{Resource as ResourceObject, Literal as LiteralObject}
 use Rattle.nquads_reader.specs.declared.quad.StatedQuad.{StatedQuad}
 use Rattle.nquads_reader.specs.Grammar.{IsWhiteThen, BeginsWithResource, BeginsWithSuffix, BeginsWithObject, BeginsWithGraphName, IsStatement}
-use Rattle.nquads_reader.specs.Document.{IsFaultless, AddsAll, labels_of_resource, labels_of_object, labels_of_graph_name, mentioned}
+use Rattle.nquads_reader.specs.Document.{IsFaultless, labels_of_resource, labels_of_object, labels_of_graph_name, mentioned}
 use Rattle.nquads_reader.specs.Reading.{TakesStated, TakesLine}
 use Rattle.nquads_reader.proofs.TerminalFacts.{iri_room, label_room, string_room, tag_room}
 

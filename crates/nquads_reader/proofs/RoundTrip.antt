@@ -3,6 +3,7 @@ use Rattle.std.proofs.Common.{ℕ, ◌<◌, List, [], All, map, refl, sym, ap, s
 use Rattle.std.specs.List.{flat_map}
 use Rattle.rdf_terms.specs.Lists.{In, AreDistinct, joined, sorted}
 use Rattle.rdf_terms.specs.Terms.{Statement, IsValidStatement}
+use Rattle.rdf_terms.specs.Document.{AddsAll}
 use Rattle.rdf_terms.specs.Dataset.{Dataset, IsValid, IsUsed}
 use Rattle.rdf_terms.specs.Isomorphism.{Relabelling, relabel_statement}
 use Rattle.rdf_terms.specs.CanonicalForm.{Naming, canonical_line, canonical_nquads}
@@ -13,7 +14,7 @@ use Rattle.rdf_terms.proofs.SameTerm.{labels_tell}
 use Rattle.rdf_terms.proofs.SortedTexts.{sorted-permutes}
 use Rattle.canonical_writer.proofs.Matching.{Unmapped, unmapped}
 use Rattle.nquads_reader.specs.Lines.{lines_of}
-use Rattle.nquads_reader.specs.Document.{AllState, mentioned, AddsAll, IsNQuads}
+use Rattle.nquads_reader.specs.Document.{AllState, mentioned, IsNQuads}
 use Rattle.nquads_reader.specs.RoundTrip.{IsNumbered, ReadsBack}
 use Rattle.nquads_reader.specs.declared.quad.StatedQuad.{StatedQuad}
 use Rattle.nquads_reader.proofs.Adding.{add_all, AddsAll-AreDistinct}

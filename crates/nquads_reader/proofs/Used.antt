@@ -4,7 +4,7 @@ use Rattle.std.specs.List.{flat_map, AllZip}
 use Rattle.rdf_terms.specs.Lists.{Text, In, AreDistinct}
 use Rattle.rdf_terms.specs.Terms.{Statement}
 use Rattle.rdf_terms.specs.Dataset.{is_node, is_named_by, mentions, IsUsed}
-use Rattle.rdf_terms.specs.Document.{Adds}
+use Rattle.rdf_terms.specs.Document.{Adds, AddsAll}
 use Rattle.rdf_terms.specs.declared.term.Term.{Term}
 use Rattle.rdf_terms.specs.declared.term.Label.{Label}
 use Rattle.nquads_reader.specs.declared.quad.Resource.{Resource}
@@ -12,7 +12,7 @@ use Rattle.nquads_reader.specs.declared.quad.Resource.TheVariants.{Iri, Label as
 use Rattle.nquads_reader.specs.declared.quad.Object.{Object}
 use Rattle.nquads_reader.specs.declared.quad.Object.TheVariants.{Resource as ResourceObject, Literal as LiteralObject}
 use Rattle.nquads_reader.specs.declared.quad.StatedQuad.{StatedQuad}
-use Rattle.nquads_reader.specs.Document.{IsResourceTerm, IsObjectTerm, IsGraphNameTerm, IsStatementOf, AddsAll, AreRead, labels_of_resource, labels_of_object, labels_of_graph_name, mentioned}
+use Rattle.nquads_reader.specs.Document.{IsResourceTerm, IsObjectTerm, IsGraphNameTerm, IsStatementOf, AreRead, labels_of_resource, labels_of_object, labels_of_graph_name, mentioned}
 
 -- ---- membership
 

@@ -3,7 +3,7 @@ use Rattle.std.specs.Prelude.{◌≡◌, ℕ, ◌-◌, ◌<◌, List, [], ◌∷
 use Rattle.std.specs.List.{flat_map, AllZip}
 use Rattle.rdf_terms.specs.Lists.{Text}
 use Rattle.rdf_terms.specs.Terms.{Statement, HasScheme}
-use Rattle.rdf_terms.specs.Document.{Adds}
+use Rattle.rdf_terms.specs.Document.{AddsAll}
 use Rattle.rdf_terms.specs.declared.term.Term.{Term}
 use Rattle.rdf_terms.specs.declared.term.Term.TheVariants.{Iri as IriTerm, Blank, Literal as LiteralTerm}
 use Rattle.rdf_terms.specs.declared.term.LiteralKind.{LiteralKind}
@@ -118,11 +118,6 @@ pub record IsStatementOf (labels : List Label) (quad : StatedQuad) (statement : 
   pub graph_name : IsGraphNameTerm labels quad.graph_name statement.graph_name
 
 -- ---- the document
-
--- the elements of xs that old lacks are at the end of new, each once, in order of first appearance
-abbrev pub AddsAll : {A : Type 0} → List A → List A → List A → Type 0
-AddsAll old [] new = new ≡ old
-AddsAll {A} old (x ∷ xs) new = (next : List A) × Adds old x next × AddsAll next xs new
 
 -- no line has a fault; node n has label n, in order of first mention; and these are the distinct quads, in order of first appearance
 pub record AreRead (lines : List Text) (labels : List Label) (statements : List Statement) : Type 0 where

@@ -2,8 +2,8 @@
 use Rattle.std.specs.Prelude.{◌≡◌, Option, Some, None, IfSome, IsUtf8}
 use Rattle.rdf_terms.specs.Lists.{Text}
 use Rattle.rdf_terms.specs.Terms.{Statement, IsAbsoluteIri, IsValidKind}
-use Rattle.rdf_terms.specs.Document.{Document, Adds, statements}
-use Rattle.nquads_reader.specs.Document.{IsNotUtf8, IsBad, HasRelativeIri, IsFaultless, mentioned, IsStatementOf, AddsAll}
+use Rattle.rdf_terms.specs.Document.{Document, Adds, AddsAll, statements}
+use Rattle.nquads_reader.specs.Document.{IsNotUtf8, IsBad, HasRelativeIri, IsFaultless, mentioned, IsStatementOf}
 use Rattle.nquads_reader.specs.declared.quad.Resource.{Resource}
 use Rattle.nquads_reader.specs.declared.quad.Resource.TheVariants.{Iri, Label}
 use Rattle.nquads_reader.specs.declared.quad.Object.{Object}

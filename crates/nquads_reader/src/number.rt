@@ -1,7 +1,7 @@
 ghost use Rattle.std.specs.Prelude.{◌≡◌, ◌<◌, ◌≤◌, ◌+◌, length, IfOk, OnOk};
-ghost use Rattle.rdf_terms.specs.Document.{statements};
+ghost use Rattle.rdf_terms.specs.Document.{statements, AddsAll};
 ghost use Rattle.rdf_terms.specs.References.{term_of, graph_name_of};
-ghost use Rattle.nquads_reader.specs.Document.{labels_of_resource, labels_of_object, labels_of_graph_name, IsResourceTerm, IsObjectTerm, IsGraphNameTerm, AddsAll};
+ghost use Rattle.nquads_reader.specs.Document.{labels_of_resource, labels_of_object, labels_of_graph_name, IsResourceTerm, IsObjectTerm, IsGraphNameTerm};
 ghost use Rattle.nquads_reader.specs.Reading.{IsValidQuad, TakesQuad};
 
 use crate::quad::{Object, Resource, StatedQuad};
