@@ -3,6 +3,7 @@ mod TerminalFacts
 mod WhiteSpace
 mod LineTerms
 mod Numbering
+mod ManyQuads
 mod Room
 mod ValidQuad
 mod ReadLines

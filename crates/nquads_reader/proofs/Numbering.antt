@@ -3,7 +3,7 @@ use Rattle.std.proofs.Common.{◌≡◌, ℕ, zero, suc, List, [], ◌∷◌, �
 use Rattle.std.specs.List.{AllZip}
 use Rattle.std.proofs.lemmas.Option.{slice_get_within}
 use Rattle.rdf_terms.specs.Terms.{Statement, IsIri, IsIriOrBlank, IsValidTerm, IsValidStatement}
-use Rattle.rdf_terms.specs.Document.{Document, Adds, AddsAll, Extends, statements}
+use Rattle.rdf_terms.specs.Document.{Adds, AddsAll, Extends}
 use Rattle.rdf_terms.specs.declared.term.Term.{Term}
 use Rattle.rdf_terms.specs.declared.term.Term.TheVariants.{Iri as IriTerm}
 use Rattle.rdf_terms.specs.declared.term.Label.{Label}
@@ -14,7 +14,7 @@ use Rattle.nquads_reader.specs.declared.quad.Object.{Object}
 use Rattle.nquads_reader.specs.declared.quad.Object.TheVariants.{Resource as ResourceObject, Literal as LiteralObject}
 use Rattle.nquads_reader.specs.declared.quad.StatedQuad.{StatedQuad}
 use Rattle.nquads_reader.specs.Document.{IsResourceTerm, IsObjectTerm, IsGraphNameTerm, IsStatementOf, labels_of_resource, labels_of_object, labels_of_graph_name, mentioned}
-use Rattle.nquads_reader.specs.Reading.{IsValidResource, IsValidObject, IsValidQuad, TakesQuad}
+use Rattle.nquads_reader.specs.Reading.{IsValidResource, IsValidObject, IsValidQuad}
 
 -- ---- adding
 
@@ -83,14 +83,6 @@ module _ (q : StatedQuad) (l0 l1 l2 l3 : List Label) (s o : Term) (g : Option Te
     object = object_kept l2 l3 last q.object o oi;
     graph_name = gi;
   }
-
-pub takes_quad : (q : StatedQuad) (old new : Document) (before : List Statement) (labels : List Label) (st : Statement) → before ≡ statements old → new.labels ≡ labels → AddsAll old.labels (mentioned q) labels → IsStatementOf labels q st → Adds before st (statements new) → TakesQuad q old new
-takes_quad q old new before labels st same kept all numbers adds = record {
-  statement = st;
-  labels = rw kept all;
-  numbers = rw kept numbers;
-  adds = subst (λ b. Adds b st (statements new)) same adds;
-}
 
 -- ---- it is valid
 

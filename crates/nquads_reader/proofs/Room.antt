@@ -1,7 +1,10 @@
 -- A line that states a quad has at least seven bytes, and a quad mentions at most three labels.
-use Rattle.std.proofs.Common.{◌+◌, ◌*◌, ◌≤◌, List, [], ◌∷◌, ◌++◌, Option, Some, None, inl, inr, length, ap, arith, length-append}
+use Rattle.std.proofs.Common.{◌≡◌, ◌∙◌, ◌+◌, ◌*◌, ◌≤◌, List, [], ◌∷◌, ◌++◌, Option, Some, None, inl, inr, length, ap, arith, length-append}
+use Rattle.std.specs.List.{flat_map}
+use Rattle.std.proofs.lemmas.Slice.Zip.{AllZip-long}
 use Rattle.rdf_terms.specs.Lists.{Text}
 use Rattle.rdf_terms.specs.Document.{Document, Adds, AddsAll, statements}
+use Rattle.rdf_terms.specs.declared.term.Label.{Label as NodeLabel}
 use Rattle.rdf_terms.specs.declared.term.LiteralKind.{LiteralKind}
 use Rattle.rdf_terms.specs.declared.term.LiteralKind.TheVariants.{Typed, Tagged}
 use Rattle.nquads_reader.specs.declared.quad.Resource.{Resource}
@@ -10,8 +13,8 @@ use Rattle.nquads_reader.specs.declared.quad.Object.{Object}
 use Rattle.nquads_reader.specs.declared.quad.Object.TheVariants.{Resource as ResourceObject, Literal as LiteralObject}
 use Rattle.nquads_reader.specs.declared.quad.StatedQuad.{StatedQuad}
 use Rattle.nquads_reader.specs.Grammar.{IsWhiteThen, BeginsWithResource, BeginsWithSuffix, BeginsWithObject, BeginsWithGraphName, IsStatement}
-use Rattle.nquads_reader.specs.Document.{IsFaultless, labels_of_resource, labels_of_object, labels_of_graph_name, mentioned}
-use Rattle.nquads_reader.specs.Reading.{TakesStated, TakesLine}
+use Rattle.nquads_reader.specs.Document.{IsFaultless, quads_in, labels_of_resource, labels_of_object, labels_of_graph_name, mentioned, IsStatementOf}
+use Rattle.nquads_reader.specs.Reading.{Appends, TakesQuads}
 use Rattle.nquads_reader.proofs.TerminalFacts.{iri_room, label_room, string_room, tag_room}
 
 white_room : (text rest : Text) → IsWhiteThen text rest → length rest ≤ length text
@@ -78,16 +81,36 @@ mentioned_room q = omega (
   length-append (labels_of_object q.object) (labels_of_graph_name q.graph_name),
 )
 
-pub quads_room : (line : Text) (old new : Document) → TakesLine line old new → 7 * length (statements new) ≤ 7 * length (statements old) + length line
-quads_room line old new t = by t.stated t.faultless t.takes
-  where
-    by : (stated : Option StatedQuad) → IsFaultless line stated → TakesStated stated old new → 7 * length (statements new) ≤ 7 * length (statements old) + length line
-    by None f takes = omega (arith, ap (λ d. length (statements d)) takes)
-    by (Some q) f takes = omega (arith, statement_room line q f.states, added_room (statements old) takes.statement (statements new) takes.adds)
+all_mentioned_room : (qs : List StatedQuad) → length (flat_map mentioned qs) ≤ 3 * length qs
+all_mentioned_room [] = omega arith
+all_mentioned_room (q ∷ qs) = omega (arith, length-append (mentioned q) (flat_map mentioned qs), mentioned_room q, all_mentioned_room qs)
 
-pub labels_room : (line : Text) (old new : Document) → TakesLine line old new → 7 * length new.labels ≤ 7 * length old.labels + 3 * length line
-labels_room line old new t = by t.stated t.faultless t.takes
-  where
-    by : (stated : Option StatedQuad) → IsFaultless line stated → TakesStated stated old new → 7 * length new.labels ≤ 7 * length old.labels + 3 * length line
-    by None f takes = omega (arith, ap (λ (d : Document). length d.labels) takes)
-    by (Some q) f takes = omega (arith, statement_room line q f.states, mentioned_room q, all_room old.labels (mentioned q) new.labels takes.labels)
+pub labels_room : (old new : List NodeLabel) (q : StatedQuad) → AddsAll old (mentioned q) new → length new ≤ length old + 3
+labels_room old new q h = omega (arith, all_room old (mentioned q) new h, mentioned_room q)
+
+-- ---- lines and the quads that they state
+
+stated_room : (line : Text) (stated : Option StatedQuad) → IsFaultless line stated → 7 * length (quads_in stated) ≤ length line
+stated_room line None f = omega arith
+stated_room line (Some q) f = omega (arith, statement_room line q f.states)
+
+stated_few : (stated : Option StatedQuad) → length (quads_in stated) ≤ 1
+stated_few None = omega arith
+stated_few (Some q) = omega arith
+
+module _ (line : Text) (old new : List StatedQuad) (appends : Appends line old new) where
+  longer : length new ≡ length old + length (quads_in appends.stated)
+  longer = ap length appends.appended ∙ length-append old (quads_in appends.stated)
+
+  pub appended_room : 7 * length new ≤ 7 * length old + length line
+  appended_room = omega (arith, longer, stated_room line appends.stated appends.faultless)
+
+  pub appended_few : length new ≤ length old + 1
+  appended_few = omega (arith, longer, stated_few appends.stated)
+
+module _ (qs : List StatedQuad) (old new : Document) (takes : TakesQuads qs old new) where
+  pub taken_quads_room : length (statements new) ≤ length (statements old) + length qs
+  taken_quads_room = omega (arith, all_room (statements old) takes.numbered (statements new) takes.adds, AllZip-long (IsStatementOf new.labels) qs takes.numbered takes.numbers)
+
+  pub taken_labels_room : length new.labels ≤ length old.labels + 3 * length qs
+  taken_labels_room = omega (arith, all_room old.labels (flat_map mentioned qs) new.labels takes.labels, all_mentioned_room qs)

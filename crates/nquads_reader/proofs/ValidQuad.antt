@@ -1,11 +1,11 @@
--- The texts of what a faultless line states are valid.
-use Rattle.std.proofs.Common.{◌≡◌, ℕ, ◌<◌, Bool, true, false, not, nat_lt, Option, Some, None, IfSome, All, inl, inr, sym, subst, refl, true≢false}
+-- The texts of what faultless lines state are valid.
+use Rattle.std.proofs.Common.{◌≡◌, ℕ, ◌<◌, Bool, true, false, not, nat_lt, List, [], ◌∷◌, Option, Some, None, IfSome, All, inl, inr, sym, subst, refl, true≢false}
 use Rattle.std.specs.List.{list_all}
 use Rattle.std.specs.Str.{IsUtf8}
 use Rattle.std.proofs.lemmas.Bool.{ltb-true}
 use Rattle.std.proofs.lemmas.Str.{IsUtf8-from_ascii}
 use Rattle.std.proofs.lemmas.Str.Ascii.{IsAscii-from_all}
-use Rattle.std.proofs.lemmas.List.Elements.{All-weaker}
+use Rattle.std.proofs.lemmas.List.Elements.{All-weaker, All-nil, All-cons, All-append}
 use Rattle.std.proofs.lemmas.List.Sums.{AllPass-from_list_all}
 use Rattle.rdf_terms.specs.Lists.{Text}
 use Rattle.rdf_terms.specs.Terms.{HasScheme, is_excluded, IsAbsoluteIri, IsValidKind}
@@ -18,7 +18,7 @@ use Rattle.nquads_reader.specs.declared.quad.Object.{Object}
 use Rattle.nquads_reader.specs.declared.quad.Object.TheVariants.{Resource as ResourceObject, Literal as LiteralObject}
 use Rattle.nquads_reader.specs.declared.quad.StatedQuad.{StatedQuad}
 use Rattle.nquads_reader.specs.Grammar.{BeginsWithIri, BeginsWithResource, BeginsWithSuffix, BeginsWithObject, BeginsWithGraphName}
-use Rattle.nquads_reader.specs.Document.{IsAbsoluteResource, IsAbsoluteKind, IsAbsoluteObject, IsFaultless}
+use Rattle.nquads_reader.specs.Document.{IsAbsoluteResource, IsAbsoluteKind, IsAbsoluteObject, IsFaultless, quads_in, AllState}
 use Rattle.nquads_reader.specs.Reading.{IsValidResource, IsValidObject, IsValidQuad}
 use Rattle.terminals.specs.declared.bodies.Quote.TheVariants.{Double}
 use Rattle.terminals.proofs.Facts.{iri_absolute, tag_is, string_utf8}
@@ -64,7 +64,7 @@ graph_name_valid : (text : Text) (g : Option Resource) (rest : Text) → BeginsW
 graph_name_valid text None rest h scheme = tt
 graph_name_valid text (Some r) rest h scheme = resource_valid text r h.after h.begins scheme
 
-pub quad_valid : (line : Text) (q : StatedQuad) → IsFaultless line (Some q) → IsValidQuad q
+quad_valid : (line : Text) (q : StatedQuad) → IsFaultless line (Some q) → IsValidQuad q
 quad_valid line q f =
     let s = f.states in
     record {
@@ -73,3 +73,11 @@ quad_valid line q f =
       object = object_valid s.terms.at_object q.object s.terms.object.after s.terms.object.begins f.absolute.object;
       graph_name = graph_name_valid s.terms.at_graph_name q.graph_name s.at_dot s.terms.graph_name f.absolute.graph_name;
     }
+
+stated_valid : (line : Text) (stated : Option StatedQuad) → IsFaultless line stated → All IsValidQuad (quads_in stated)
+stated_valid line None f = All-nil IsValidQuad
+stated_valid line (Some q) f = All-cons IsValidQuad q [] (quad_valid line q f) (All-nil IsValidQuad)
+
+pub quads_valid : (lines : List Text) (quads : List StatedQuad) → AllState lines quads → All IsValidQuad quads
+quads_valid [] quads h = subst (All IsValidQuad) (sym h) (All-nil IsValidQuad)
+quads_valid (l ∷ ls) quads h = subst (All IsValidQuad) (sym h.3) (All-append IsValidQuad (quads_in h.0) h.1 (stated_valid l h.0 h.2) (quads_valid ls h.1 h.4))

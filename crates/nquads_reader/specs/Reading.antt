@@ -1,9 +1,11 @@
 -- What a function that reads at the front of a text answers.
-use Rattle.std.specs.Prelude.{◌≡◌, Option, Some, None, IfSome, IsUtf8}
+use Rattle.std.specs.Prelude.{◌≡◌, ℕ, ◌+◌, ◌*◌, ◌<◌, ◌≤◌, List, ◌++◌, Option, Some, None, IfSome, IsUtf8, length, take, drop}
+use Rattle.std.specs.List.{flat_map, AllZip}
 use Rattle.rdf_terms.specs.Lists.{Text}
 use Rattle.rdf_terms.specs.Terms.{Statement, IsAbsoluteIri, IsValidKind}
-use Rattle.rdf_terms.specs.Document.{Document, Adds, AddsAll, statements}
-use Rattle.nquads_reader.specs.Document.{IsNotUtf8, IsBad, HasRelativeIri, IsFaultless, mentioned, IsStatementOf}
+use Rattle.rdf_terms.specs.Document.{Document, AddsAll, statements}
+use Rattle.nquads_reader.specs.Lines.{lines_of}
+use Rattle.nquads_reader.specs.Document.{IsNotUtf8, IsBad, HasRelativeIri, IsFaultless, IsLeastFaulty, quads_in, AllState, mentioned, IsStatementOf}
 use Rattle.nquads_reader.specs.declared.quad.Resource.{Resource}
 use Rattle.nquads_reader.specs.declared.quad.Resource.TheVariants.{Iri, Label}
 use Rattle.nquads_reader.specs.declared.quad.Object.{Object}
@@ -11,6 +13,8 @@ use Rattle.nquads_reader.specs.declared.quad.Object.TheVariants.{Resource as Res
 use Rattle.nquads_reader.specs.declared.quad.StatedQuad.{StatedQuad}
 use Rattle.nquads_reader.specs.declared.line.LineFault.{LineFault}
 use Rattle.nquads_reader.specs.declared.line.LineFault.TheVariants.{NotUtf8, BadLine, RelativeIri, NoMemory}
+use Rattle.nquads_reader.specs.declared.fault.ReadFault.{ReadFault}
+use Rattle.nquads_reader.specs.declared.fault.ReadFault.TheVariants.{NotUtf8 as NotUtf8In, BadLine as BadLineIn, RelativeIri as RelativeIriIn, NoMemory as Memory}
 
 -- the text begins with what was found, seen by view as a value and the rest; where nothing was found, it begins with nothing of the kind
 abbrev pub Reads : {X V : Type 0} → (X → V × Text) → (V → Text → Type 0) → Option X → Type 0
@@ -40,19 +44,39 @@ pub record IsValidQuad (quad : StatedQuad) : Type 0 where
   pub object : IsValidObject quad.object
   pub graph_name : IfSome quad.graph_name IsValidResource
 
--- ---- what a line adds to a document
+-- ---- what some lines at the front state
 
-pub record TakesQuad (quad : StatedQuad) (old new : Document) : Type 0 where
-  pub statement : Statement
-  pub labels : AddsAll old.labels (mentioned quad) new.labels
-  pub numbers : IsStatementOf new.labels quad statement
-  pub adds : Adds (statements old) statement (statements new)
-
-abbrev pub TakesStated : Option StatedQuad → Document → Document → Type 0
-TakesStated None old new = new ≡ old
-TakesStated (Some quad) old new = TakesQuad quad old new
-
-pub record TakesLine (line : Text) (old new : Document) : Type 0 where
+-- the quad that the line states, if any, stands behind the others
+pub record Appends (line : Text) (old new : List StatedQuad) : Type 0 where
   pub stated : Option StatedQuad
   pub faultless : IsFaultless line stated
-  pub takes : TakesStated stated old new
+  pub appended : new ≡ old ++ quads_in stated
+
+-- the first lines state the quads, each of which takes seven bytes at least, and the rest stands behind them
+pub record IsBlock (bytes : Text) (quads : List StatedQuad) (lines : ℕ) (rest : Text) : Type 0 where
+  pub states : AllState (take lines (lines_of bytes)) quads
+  pub behind : drop lines (lines_of bytes) ≡ lines_of rest
+  pub counted : lines + length rest ≤ length bytes
+  pub room : 7 * length quads + length rest ≤ length bytes
+  pub shorter : length rest < length bytes
+
+-- the line of this number, counted from 1, is the first one with a fault, and this is its fault; or memory was refused at it, and no line before it has a fault
+pub record IsFirstFault (bytes : Text) (line : ℕ) (fault : LineFault) : Type 0 where
+  pub least : IsLeastFaulty (λ text. IsFaultOf text fault) (lines_of bytes) line
+  pub within : line ≤ length bytes
+
+-- the same as a fault of the document
+abbrev pub fault_at : ℕ → LineFault → ReadFault
+fault_at line NotUtf8 = NotUtf8In line
+fault_at line BadLine = BadLineIn line
+fault_at line RelativeIri = RelativeIriIn line
+fault_at line NoMemory = Memory
+
+-- ---- what quads add to a document
+
+-- the labels that they mention get numbers, and their statements are added
+pub record TakesQuads (quads : List StatedQuad) (old new : Document) : Type 0 where
+  pub numbered : List Statement
+  pub labels : AddsAll old.labels (flat_map mentioned quads) new.labels
+  pub numbers : AllZip (IsStatementOf new.labels) quads numbered
+  pub adds : AddsAll (statements old) numbered (statements new)

@@ -4,6 +4,7 @@
 pub use fault::ReadFault;
 pub use read::read_nquads;
 
+mod block;
 mod fault;
 pub mod laws;
 mod line;

@@ -1,11 +1,13 @@
-ghost use Rattle.std.specs.Prelude.{◌≡◌, ◌<◌, ◌≤◌, ◌+◌, length, IfOk, OnOk};
+ghost use Rattle.std.specs.Prelude.{◌≡◌, ◌<◌, ◌≤◌, ◌+◌, ◌*◌, length, map, All, IfOk, OnOk};
+ghost use Rattle.std.specs.List.{flat_map, AllZip};
 ghost use Rattle.rdf_terms.specs.Document.{statements, AddsAll};
-ghost use Rattle.rdf_terms.specs.References.{term_of, graph_name_of};
-ghost use Rattle.nquads_reader.specs.Document.{labels_of_resource, labels_of_object, labels_of_graph_name, IsResourceTerm, IsObjectTerm, IsGraphNameTerm};
-ghost use Rattle.nquads_reader.specs.Reading.{IsValidQuad, TakesQuad};
+ghost use Rattle.rdf_terms.specs.References.{term_of, graph_name_of, statement_of};
+ghost use Rattle.nquads_reader.specs.Document.{labels_of_resource, labels_of_object, labels_of_graph_name, mentioned, IsResourceTerm, IsObjectTerm, IsGraphNameTerm, IsStatementOf};
+ghost use Rattle.nquads_reader.specs.Reading.{IsValidQuad, TakesQuads};
 
 use crate::quad::{Object, Resource, StatedQuad};
 use rdf_terms::{Draft, LabelRef, NoMemory, StatementRef, TermRef};
+use std::alloc::Global;
 
 #[inline(always)]
 fn resource_term<'a>(draft: &mut Draft, resource: &'a Resource<'_>) -> Result<TermRef<'a>, NoMemory>
@@ -55,21 +57,57 @@ fn graph_name_term<'a>(
     }
 }
 
-// Adds the quad, with a number for each label that is new.
-pub fn take_quad(draft: &mut Draft, quad: &StatedQuad<'_>) -> Result<(), NoMemory>
-    requires valid { IsValidQuad quad.now }
-    requires room { length (statements draft.old) < 1000000000 }
-    requires labels { length draft.old.labels + 3 ≤ 4294967295 }
-    ensures { OnOk result (TakesQuad quad.now draft.old draft.new) }
+// What the quad states, with a number for each label that is new.
+#[inline(always)]
+fn statement_ref<'a>(
+    draft: &mut Draft,
+    quad: &'a StatedQuad<'_>,
+) -> Result<StatementRef<'a>, NoMemory>
+    requires { length draft.old.labels + 3 ≤ 4294967295 }
+    ensures numbers { IfOk result (λ statement. IsStatementOf draft.new.labels quad.now (statement_of statement)) }
+    ensures labels { OnOk result (AddsAll draft.old.labels (mentioned quad.now) draft.new.labels) }
+    ensures statements { statements draft.new ≡ statements draft.old }
 {
     let subject = resource_term(draft, &quad.subject)?;
     let object = object_term(draft, &quad.object)?;
     let graph_name = graph_name_term(draft, &quad.graph_name)?;
-    draft.add_ref(StatementRef {
+    Ok(StatementRef {
         subject,
         predicate: TermRef::Iri(quad.predicate.as_str()),
         object,
         graph_name,
-    })?;
-    Ok(())
+    })
+}
+
+// What the quads state, one by one, with a number for each label that is new.
+fn statement_refs<'a>(
+    alloc: Global,
+    draft: &mut Draft,
+    quads: &'a [StatedQuad<'_>],
+) -> Result<Vec<StatementRef<'a>>, NoMemory>
+    requires { length draft.old.labels + 3 * length quads.now ≤ 4294967295 }
+    ensures numbers { IfOk result (λ refs. AllZip (IsStatementOf draft.new.labels) quads.now (map statement_of refs.items)) }
+    ensures labels { OnOk result (AddsAll draft.old.labels (flat_map mentioned quads.now) draft.new.labels) }
+    ensures statements { statements draft.new ≡ statements draft.old }
+{
+    let mut refs = Vec::with_capacity(alloc, quads.len())?;
+    for quad in quads {
+        refs.push(statement_ref(draft, quad)?)?;
+    }
+    Ok(refs)
+}
+
+// Adds the quads in their order, with a number for each label that is new.
+pub fn take_quads(
+    alloc: Global,
+    draft: &mut Draft,
+    quads: &[StatedQuad<'_>],
+) -> Result<(), NoMemory>
+    requires valid { All IsValidQuad quads.now }
+    requires room { length (statements draft.old) + length quads.now ≤ 1000000000 }
+    requires labels { length draft.old.labels + 3 * length quads.now ≤ 4294967295 }
+    ensures { OnOk result (TakesQuads quads.now draft.old draft.new) }
+{
+    let refs = statement_refs(alloc, draft, quads)?;
+    draft.add_all(&refs)
 }

@@ -1,11 +1,11 @@
-ghost use Rattle.std.specs.Prelude.{◌≡◌, ◌≤◌, ◌<◌, ◌+◌, length, IfOk, IfErr, OnOk};
+ghost use Rattle.std.specs.Prelude.{◌≡◌, ◌≤◌, length, IfOk, IfErr};
 ghost use Rattle.rdf_terms.specs.Document.{statements, IsDocument};
 ghost use Rattle.nquads_reader.specs.Document.{IsNQuads, IsCauseOf};
-ghost use Rattle.nquads_reader.specs.Reading.{TakesLine, IsFaultOf};
+ghost use Rattle.nquads_reader.specs.Reading.{fault_at};
 
-use crate::line::{LineFault, read_line};
-use crate::lines::next_line;
-use crate::number::take_quad;
+use crate::block::read_block;
+use crate::line::LineFault;
+use crate::number::take_quads;
 use crate::{MAX_QUADS, ReadFault};
 use rdf_terms::{Draft, Parsed};
 use std::alloc::Global;
@@ -13,19 +13,15 @@ use std::alloc::Global;
 // A file gets room for one quad and one term for each so many bytes at once, and more as it needs it.
 const EXPECTED_LINE: usize = 64;
 
-// Adds what the line states.
-fn take_line(alloc: Global, draft: &mut Draft, line: &[u8]) -> Result<(), LineFault>
-    requires room { length (statements draft.old) < 1000000000 }
-    requires labels { length draft.old.labels + 3 ≤ 4294967295 }
-    ensures ok { OnOk result (TakesLine line.now draft.old draft.new) }
-    ensures err { IfErr result (IsFaultOf line.now) }
+// The fault of a document whose first faulty line has this number and this fault.
+fn read_fault(line: u64, fault: LineFault) -> ReadFault
+    ensures { result ≡ fault_at line fault }
 {
-    match read_line(alloc, line)? {
-        None => Ok(()),
-        Some(quad) => {
-            take_quad(draft, &quad)?;
-            Ok(())
-        }
+    match fault {
+        LineFault::NotUtf8 => ReadFault::NotUtf8 { line },
+        LineFault::BadLine => ReadFault::BadLine { line },
+        LineFault::RelativeIri => ReadFault::RelativeIri { line },
+        LineFault::NoMemory => ReadFault::NoMemory,
     }
 }
 
@@ -37,18 +33,17 @@ fn read_lines(alloc: Global, bytes: &[u8]) -> Result<Draft, ReadFault>
 {
     let expected = bytes.len() / EXPECTED_LINE;
     let mut draft = Draft::with_capacity(alloc, expected, expected)?;
+    let mut quads = Vec::new(alloc);
     let mut rest = bytes;
-    let mut line = 0u64;
+    let mut lines = 0u64;
     while !rest.is_empty() {
-        let (text, after) = next_line(rest);
-        rest = after;
-        line += 1;
-        match take_line(alloc, &mut draft, text) {
-            Ok(()) => {}
-            Err(LineFault::NotUtf8) => return Err(ReadFault::NotUtf8 { line }),
-            Err(LineFault::BadLine) => return Err(ReadFault::BadLine { line }),
-            Err(LineFault::RelativeIri) => return Err(ReadFault::RelativeIri { line }),
-            Err(LineFault::NoMemory) => return Err(ReadFault::NoMemory),
+        match read_block(alloc, rest, &mut quads) {
+            Ok(block) => {
+                take_quads(alloc, &mut draft, &quads)?;
+                rest = block.rest;
+                lines += block.lines;
+            }
+            Err(found) => return Err(read_fault(lines + found.line, found.fault)),
         }
     }
     Ok(draft)

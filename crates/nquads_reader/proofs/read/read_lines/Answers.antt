@@ -1,38 +1,34 @@
-use Rattle.std.proofs.Common.{◌≡◌, ◌+◌, ◌∷◌, length, drop, sym, ap, refl, ◌∙◌, arith}
+use Rattle.std.proofs.Common.{arith, length, sym, subst, take}
 use Rattle.std.proofs.lemmas.Bool.{eqb-true}
-use Rattle.std.proofs.lemmas.List.{drop-drop}
 use Rattle.nquads_reader.specs.Lines.{lines_of}
-use Rattle.nquads_reader.specs.Document.{IsNotUtf8, IsBad, HasRelativeIri}
-use Rattle.nquads_reader.proofs.Room.{quads_room, labels_room}
-use Rattle.nquads_reader.proofs.ReadLines.{line_read, all_read, least_faulty}
+use Rattle.nquads_reader.specs.Document.{IsCauseOf}
+use Rattle.nquads_reader.specs.Reading.{TakesQuads}
+use Rattle.nquads_reader.proofs.Room.{taken_quads_room, taken_labels_room}
+use Rattle.nquads_reader.proofs.ReadLines.{block_read, lines_behind, fault_behind, cause_at, all_read}
+use Rattle.nquads_reader.proofs.ValidQuad.{quads_valid}
 use Rattle.nquads_reader.proofs.read.read_lines.Goals as goal
+
+pub take_quads-requires-clause-valid : goal.take_quads-requires-clause-valid
+take_quads-requires-clause-valid c =
+    rw c.deref.ensures.value (quads_valid (take c.in-Ok.block.lines (lines_of c.loop-rest.rest.now)) c.read_block.new.quads.items c.in-Ok.ensures.ok.states)
 
 pub loop-rest-preserved : goal.loop-rest-preserved
 loop-rest-preserved c =
-    let at : drop c.loop-rest.line (lines_of c.args.bytes.now) ≡ c.next_line.result.0.now ∷ lines_of c.next_line.result.1.now = c.loop-rest.invariant.at_line ∙ c.next_line.ensures.lines in
+    let block = c.in-Ok.ensures.ok in
+    let takes : TakesQuads c.read_block.new.quads.items c.loop-rest.draft c.take_quads.new.draft = rw c.deref.ensures.value at c.in_ok-take_quads-in-Ok.ensures in
     record {
-      reads = line_read (lines_of c.args.bytes.now) c.loop-rest.line c.next_line.result.0.now (lines_of c.next_line.result.1.now) c.loop-rest.draft c.take_line.new.draft at c.loop-rest.invariant.reads c.in-Ok.ensures.ok;
-      at_line = sym (drop-drop 1 c.loop-rest.line (lines_of c.args.bytes.now)) ∙ ap (drop 1) at;
-      counted = omega (arith, c.next_line.ensures.shorter, c.loop-rest.invariant.counted);
-      room = omega (arith, c.next_line.ensures.within, c.loop-rest.invariant.room, quads_room c.next_line.result.0.now c.loop-rest.draft c.take_line.new.draft c.in-Ok.ensures.ok);
-      labels = omega (arith, c.next_line.ensures.within, c.loop-rest.invariant.labels, labels_room c.next_line.result.0.now c.loop-rest.draft c.take_line.new.draft c.in-Ok.ensures.ok);
+      reads = block_read c.args.bytes.now c.loop-rest.rest.now c.loop-rest.lines c.loop-rest.invariant.at_line c.read_block.new.quads.items c.in-Ok.block.lines c.in-Ok.block.rest.now c.loop-rest.draft c.take_quads.new.draft c.loop-rest.invariant.reads block takes;
+      at_line = lines_behind c.args.bytes.now c.loop-rest.rest.now c.loop-rest.lines c.loop-rest.invariant.at_line c.in-Ok.block.lines c.in-Ok.block.rest.now block.behind;
+      counted = omega (arith, c.loop-rest.invariant.counted, block.counted);
+      room = omega (arith, c.loop-rest.invariant.room, block.room, taken_quads_room c.read_block.new.quads.items c.loop-rest.draft c.take_quads.new.draft takes);
+      labels = omega (arith, c.loop-rest.invariant.labels, block.room, taken_labels_room c.read_block.new.quads.items c.loop-rest.draft c.take_quads.new.draft takes);
     }
 
-pub returns-in-Err-NotUtf8-clause-err : goal.returns-in-Err-NotUtf8-clause-err
-returns-in-Err-NotUtf8-clause-err c =
-    least_faulty IsNotUtf8 (lines_of c.args.bytes.now) c.loop-rest.line (c.loop-rest.line + 1) c.next_line.result.0.now (lines_of c.next_line.result.1.now) c.loop-rest.draft refl (c.loop-rest.invariant.at_line ∙ c.next_line.ensures.lines) c.loop-rest.invariant.reads
-    (rw c.in-Err-NotUtf8.field-0-is at c.in-Err-NotUtf8.ensures.err)
-
-pub returns-in-Err-BadLine-clause-err : goal.returns-in-Err-BadLine-clause-err
-returns-in-Err-BadLine-clause-err c =
-    least_faulty IsBad (lines_of c.args.bytes.now) c.loop-rest.line (c.loop-rest.line + 1) c.next_line.result.0.now (lines_of c.next_line.result.1.now) c.loop-rest.draft refl (c.loop-rest.invariant.at_line ∙ c.next_line.ensures.lines) c.loop-rest.invariant.reads
-    (rw c.in-Err-BadLine.field-0-is at c.in-Err-BadLine.ensures.err)
-
-pub returns-in-Err-RelativeIri-clause-err : goal.returns-in-Err-RelativeIri-clause-err
-returns-in-Err-RelativeIri-clause-err c =
-    least_faulty HasRelativeIri (lines_of c.args.bytes.now) c.loop-rest.line (c.loop-rest.line + 1) c.next_line.result.0.now (lines_of c.next_line.result.1.now) c.loop-rest.draft refl (c.loop-rest.invariant.at_line ∙ c.next_line.ensures.lines) c.loop-rest.invariant.reads
-    (rw c.in-Err-RelativeIri.field-0-is at c.in-Err-RelativeIri.ensures.err)
+pub returns-in-Err-clause-err : goal.returns-in-Err-clause-err
+returns-in-Err-clause-err c =
+    subst (IsCauseOf c.args.bytes.now) (sym c.read_fault.ensures) (cause_at c.args.bytes.now _ c.in-Err.found.fault
+    (fault_behind c.args.bytes.now c.loop-rest.rest.now c.loop-rest.lines c.loop-rest.invariant.at_line c.in-Err.found.line c.in-Err.found.fault c.loop-rest.draft c.loop-rest.invariant.reads c.in-Err.ensures.err))
 
 pub returns-clause-ok : goal.returns-clause-ok
 returns-clause-ok c =
-    all_read c.args.bytes.now c.loop-rest.rest.now c.loop-rest.line c.loop-rest.draft c.loop-rest.invariant.at_line (eqb-true (length c.loop-rest.rest.now) 0 (sym c.loop-rest-test.ensures)) c.loop-rest.invariant.reads
+    all_read c.args.bytes.now c.loop-rest.rest.now c.loop-rest.lines c.loop-rest.draft c.loop-rest.invariant.at_line (eqb-true (length c.loop-rest.rest.now) 0 (sym c.loop-rest-test.ensures)) c.loop-rest.invariant.reads

@@ -6,9 +6,9 @@ use Rattle.nquads_reader.proofs.read.read_lines.Given as goal
 
 abbrev pub invariant-loop-rest : goal.invariant-loop-rest
 invariant-loop-rest l = record {
-  reads : AreRead (take l.line (lines_of l.bytes)) l.draft.labels (statements l.draft);
-  at_line : drop l.line (lines_of l.bytes) ≡ lines_of l.rest;
-  counted : l.line + length l.rest ≤ length l.bytes;
+  reads : AreRead (take l.lines (lines_of l.bytes)) l.draft.labels (statements l.draft);
+  at_line : drop l.lines (lines_of l.bytes) ≡ lines_of l.rest;
+  counted : l.lines + length l.rest ≤ length l.bytes;
   room : 7 * length (statements l.draft) + length l.rest ≤ length l.bytes;
   labels : 7 * length l.draft.labels + 3 * length l.rest ≤ 3 * length l.bytes;
 }
