@@ -3,5 +3,8 @@ pub mod Parts
 pub mod NodeStarts
 pub mod Noting
 pub mod Searching
+pub mod Subjects
+pub mod Placing
+pub mod SubjectOrder
 pub mod HeldNodes
 pub mod Building

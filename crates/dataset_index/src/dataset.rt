@@ -1,4 +1,4 @@
-ghost use Rattle.std.specs.Prelude.{◌≡◌, ◌<◌, ◌↔◌, Some, length, slice_get, All, IfOk, IsTrue, IsPermutation};
+ghost use Rattle.std.specs.Prelude.{◌≡◌, ◌<◌, ◌↔◌, Some, length, slice_get, All, IfOk, IsTrue};
 ghost use Rattle.rdf_terms.specs.Lists.{In, AreDistinct, Permutes};
 ghost use Rattle.rdf_terms.specs.Dataset.{IsValid};
 ghost use Rattle.rdf_terms.specs.Document.{dataset, statement, statements, IsDocument, IsInRange};
@@ -6,6 +6,7 @@ ghost use Rattle.rdf_terms.specs.declared.term.Term.TheVariants.{Blank};
 ghost use Rattle.dataset_index.specs.Mentions.{places_of};
 ghost use Rattle.dataset_index.specs.QuadOrder.{Ascend};
 
+use crate::by_subject::in_order;
 use crate::mentions::note_all;
 use crate::node_index::NodeIndex;
 use crate::node_terms::node_terms;
@@ -35,15 +36,6 @@ impl Model for Dataset {
     ghost invariant = { λ d. IsIndexed (record { terms = d.parsed.terms; quads = d.quads.items; labels = d.parsed.labels }) d.node_terms.items d.index };
 }
 
-fn in_order(alloc: Global, quads: &[Quad]) -> Result<Vec<Quad>, NoMemory>
-    ensures permutes { IfOk result (λ sorted. IsPermutation quads.now sorted.items) }
-    ensures ascend { IfOk result (λ sorted. Ascend sorted.items) }
-{
-    let mut sorted = quads.to_vec(alloc)?;
-    sorted.sort_unstable();
-    Ok(sorted)
-}
-
 impl Dataset {
     /// The dataset of the quads that were read, which are given up where memory is refused.
     pub fn build(alloc: Global, parsed: Parsed) -> Result<Self, NoMemory>
@@ -52,7 +44,8 @@ impl Dataset {
         ensures quads { IfOk result (λ d. Permutes parsed.quads d.quads) }
         ensures statements { IfOk result (λ d. Permutes (statements parsed) (statements d)) }
     {
-        let quads = in_order(alloc, parsed.quads())?;
+        let terms = parsed.terms().len();
+        let quads = in_order(alloc, parsed.quads(), terms as usize)?;
         let nodes = parsed.labels().len();
         let term_nodes = TermNodes::of(alloc, parsed.terms())?;
         let node_terms = node_terms(alloc, &term_nodes, nodes)?;

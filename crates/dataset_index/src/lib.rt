@@ -3,6 +3,7 @@
 
 pub use dataset::Dataset;
 
+mod by_subject;
 mod dataset;
 mod mention;
 mod mentions;
