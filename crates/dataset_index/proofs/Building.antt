@@ -1,9 +1,10 @@
 -- A document whose quads were put in another order, and what is told of its nodes.
-use Rattle.std.proofs.Common.{◌≡◌, ℕ, ◌<◌, ◌⊎◌, ◌↔◌, IsTrue, Bool, true, false, ◌||◌, List, [], ◌∷◌, Option, Some, None, IfSome, All, map, length, get_or, slice_get, inl, inr, refl, sym, ap, ◌∙◌, subst, true≢false, eqb-true, arith}
+use Rattle.std.proofs.Common.{◌≡◌, ℕ, ◌<◌, ◌⊎◌, ◌↔◌, IsTrue, Bool, true, false, ◌||◌, List, [], ◌∷◌, Option, Some, None, IfSome, Result, IfOk, All, map, length, get_or, slice_get, inl, inr, refl, sym, ap, ◌∙◌, subst, true≢false, eqb-true, arith}
 use Rattle.std.specs.List.Sorted.{IsPermutation}
 use Rattle.std.proofs.lemmas.List.{length-map}
 use Rattle.std.proofs.lemmas.List.Sorted.{All-permutation, IsPermutation-map, length_permutation}
 use Rattle.std.proofs.lemmas.Option.{slice_get_within, get_or_from_slice_get, slice_get-get_or}
+use Rattle.std.proofs.lemmas.Result.{IfOk-weaker}
 use Rattle.rdf_terms.specs.Lists.{In, AreDistinct, Permutes, numbers_below}
 use Rattle.rdf_terms.specs.Terms.{Statement, IsValidStatement, IsValidTerm}
 use Rattle.rdf_terms.specs.Dataset.{IsUsed, mentions, is_node, is_named_by}
@@ -19,7 +20,7 @@ use Rattle.dataset_index.specs.declared.mention.Mention.{Mention}
 use Rattle.dataset_index.specs.Mentions.{noted_places, places_of, NotesPlaces, places_before}
 use Rattle.dataset_index.specs.NodeTerms.{NumbersNodes}
 use Rattle.dataset_index.specs.HeldNodes.{AreNodesBelow}
-use Rattle.dataset_index.specs.Indexed.{IsIndexed}
+use Rattle.dataset_index.specs.Indexed.{IsIndexed, with_quads}
 use Rattle.dataset_index.specs.QuadOrder.{Ascend}
 use Rattle.dataset_index.proofs.Numbers.{length-numbers_below, slice_get-map_numbers_below, map-numbers_below}
 
@@ -44,10 +45,10 @@ module _ (terms : List Term) (quads sorted : List Quad) (labels : List Label) (p
   abbrev ordered : Document
   ordered = record { terms = terms; quads = sorted; labels = labels }
 
-  pub statements_permute : Permutes (map (statement terms) quads) (map (statement terms) sorted)
+  statements_permute : Permutes (map (statement terms) quads) (map (statement terms) sorted)
   statements_permute = Permutes-map (statement terms) (Permutes-from_IsPermutation quads sorted p)
 
-  pub IsDocument-ordered : IsDocument given → IsDocument ordered
+  IsDocument-ordered : IsDocument given → IsDocument ordered
   IsDocument-ordered d =
       let l = length_permutation quads sorted p in
       record {
@@ -63,6 +64,21 @@ module _ (terms : List Term) (quads sorted : List Quad) (labels : List Label) (p
         };
         used = λ n h. used_stays (map (statement terms) quads) (map (statement terms) sorted) n statements_permute (d.used n h);
       }
+
+-- what stands of a document whose quads were put in another order stands of the result, where there is one
+module _ (d : Document) (quads sorted : List Quad) (given : quads ≡ d.quads) (p : IsPermutation quads sorted) where
+  moved : IsPermutation d.quads sorted
+  moved = subst (λ qs. IsPermutation qs sorted) given p
+
+  pub IsDocument-with_quads : IsDocument d → IsDocument (with_quads d sorted)
+  IsDocument-with_quads = IsDocument-ordered d.terms d.quads sorted d.labels moved
+
+  pub quads_permuted : {E : Type 0} (r : Result Document E) → IfOk r (λ x. x ≡ with_quads d sorted) → IfOk r (λ x. Permutes d.quads x.quads)
+  quads_permuted r = IfOk-weaker r _ _ (λ x e. subst (λ w. Permutes d.quads w.quads) (sym e) (Permutes-from_IsPermutation d.quads sorted moved))
+
+  pub statements_permuted : {E : Type 0} (r : Result Document E) → IfOk r (λ x. x ≡ with_quads d sorted) → IfOk r (λ x. Permutes (statements d) (statements x))
+  statements_permuted r =
+      IfOk-weaker r _ _ (λ x e. subst (λ w. Permutes (statements d) (statements w)) (sym e) (statements_permute d.terms d.quads sorted d.labels moved))
 
 -- ---- nodes and their terms
 
@@ -150,6 +166,18 @@ indexed d numbers notes index distinct is up count at noted made = record {
   where
     number : (n : ℕ) → Numbered d.terms n → slice_get d.terms (get_or numbers n 0) ≡ Some (Blank n)
     number n k = at n k.0 k.1 k.2
+
+-- a document of no nodes has no lists of places
+pub indexed_without_nodes : (d : Document) (numbers : List ℕ) (index : List (List ℕ)) → d.labels ≡ [] → AreDistinct d.terms → IsDocument d → Ascend d.quads
+    → numbers ≡ [] → index ≡ [] → IsIndexed d numbers index
+indexed_without_nodes d numbers index none distinct is up no_numbers no_lists = record {
+  document = is;
+  distinct_terms = distinct;
+  ascend = up;
+  numbers_count = ap length no_numbers ∙ sym (ap length none);
+  numbers_are = λ n l. absurd (let e = ap length none in omega arith);
+  index_is = no_lists ∙ sym (ap (λ ls. map (places_of (statements d)) (numbers_below (length ls))) none);
+}
 
 pub index_count : (d : Document) (numbers : List ℕ) (index : List (List ℕ)) → IsIndexed d numbers index → length index ≡ length d.labels
 index_count d numbers index i = ap length i.index_is ∙ length-map (numbers_below (length d.labels)) (places_of (statements d)) ∙ length-numbers_below (length d.labels)

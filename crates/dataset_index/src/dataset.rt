@@ -1,10 +1,11 @@
-ghost use Rattle.std.specs.Prelude.{◌≡◌, ◌<◌, ◌↔◌, Some, length, slice_get, All, IfOk, IsTrue};
+ghost use Rattle.std.specs.Prelude.{◌≡◌, ◌<◌, ◌↔◌, Some, length, slice_get, All, IfOk, IsTrue, []};
 ghost use Rattle.rdf_terms.specs.Lists.{In, AreDistinct, Permutes};
 ghost use Rattle.rdf_terms.specs.Dataset.{IsValid};
 ghost use Rattle.rdf_terms.specs.Document.{dataset, statement, statements, IsDocument, IsInRange};
 ghost use Rattle.rdf_terms.specs.declared.term.Term.TheVariants.{Blank};
 ghost use Rattle.dataset_index.specs.Mentions.{places_of};
 ghost use Rattle.dataset_index.specs.QuadOrder.{Ascend};
+ghost use Rattle.dataset_index.specs.Indexed.{with_quads};
 
 use crate::by_subject::in_order;
 use crate::mentions::note_all;
@@ -46,6 +47,36 @@ impl Dataset {
     {
         let terms = parsed.terms().len();
         let quads = in_order(alloc, parsed.quads(), terms as usize)?;
+        if parsed.labels().is_empty() {
+            Self::without_nodes(alloc, parsed, quads)
+        } else {
+            Self::with_nodes(alloc, parsed, quads)
+        }
+    }
+
+    // No term is a node, so neither the terms nor the quads are looked at.
+    fn without_nodes(alloc: Global, parsed: Parsed, quads: Vec<Quad>) -> Result<Self, NoMemory>
+        requires none { parsed.labels ≡ [] }
+        requires distinct { AreDistinct parsed.terms }
+        requires document { IsDocument (with_quads parsed quads.items) }
+        requires ascend { Ascend quads.items }
+        ensures { IfOk result (λ d. d ≡ with_quads parsed quads.items) }
+    {
+        let index = NodeIndex::build(alloc, 0, Vec::new(alloc))?;
+        Ok(Dataset {
+            parsed,
+            quads,
+            node_terms: Vec::new(alloc),
+            index,
+        })
+    }
+
+    fn with_nodes(alloc: Global, parsed: Parsed, quads: Vec<Quad>) -> Result<Self, NoMemory>
+        requires distinct { AreDistinct parsed.terms }
+        requires document { IsDocument (with_quads parsed quads.items) }
+        requires ascend { Ascend quads.items }
+        ensures { IfOk result (λ d. d ≡ with_quads parsed quads.items) }
+    {
         let nodes = parsed.labels().len();
         let term_nodes = TermNodes::of(alloc, parsed.terms())?;
         let node_terms = node_terms(alloc, &term_nodes, nodes)?;

@@ -1,5 +1,4 @@
-ghost use Rattle.std.specs.Prelude.{◌≡◌, ℕ, ◌<◌, Some, length, slice_get, IfOk, OnOk};
-ghost use Rattle.rdf_terms.specs.Lists.{AreDistinct};
+ghost use Rattle.std.specs.Prelude.{◌≡◌, ℕ, ◌<◌, Some, length, slice_get, IfOk};
 ghost use Rattle.rdf_terms.specs.declared.term.Term.TheVariants.{Blank};
 ghost use Rattle.dataset_index.specs.NodeTerms.{NumbersNodes};
 
@@ -14,7 +13,6 @@ pub(crate) fn node_terms(
     nodes: usize,
 ) -> Result<Vec<u32>, NoMemory>
     requires { (n k : ℕ) → slice_get terms.now k ≡ Some (Blank n) → n < nodes }
-    ensures distinct { OnOk result (AreDistinct terms.now) }
     ensures count { IfOk result (λ numbers. length numbers.items ≡ nodes) }
     ensures numbers { IfOk result (λ numbers. NumbersNodes terms.now numbers.items (length terms.now)) }
 {

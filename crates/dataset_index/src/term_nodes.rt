@@ -1,5 +1,4 @@
 ghost use Rattle.std.specs.Prelude.{◌≡◌, ◌<◌, length, map, IfOk};
-ghost use Rattle.rdf_terms.specs.Lists.{AreDistinct};
 ghost use Rattle.rdf_terms.specs.Document.{term_at};
 ghost use Rattle.dataset_index.specs.Mentions.{node_in};
 ghost use Rattle.dataset_index.specs.HeldNodes.{held_for, node_held, AreNodesBelow};
@@ -70,8 +69,7 @@ impl<'a> TermNodes<'a> {
 
     /// How many terms there are.
     pub fn len(&self) -> u32
-        ensures len { result ≡ length self.now }
-        ensures distinct { AreDistinct self.now }
+        ensures { result ≡ length self.now }
     {
         self.terms.len()
     }
