@@ -1,7 +1,8 @@
 -- A text that is made of pieces, and their lengths.
-use Rattle.std.proofs.Common.{◌≡◌, ℕ, suc, ◌+◌, ◌-◌, ◌≤◌, List, [], ◌∷◌, ◌++◌, length, sum, take, drop, refl, sym, ap, ◌∙◌, length-append, length-drop, arith, Result, Ok, Err, OnOk}
-use Rattle.std.proofs.lemmas.List.{take-append-le, drop-append-le, take-append-drop, take_all}
-use Rattle.std.proofs.lemmas.List.Sums.{sum_by-cons}
+use Rattle.std.proofs.Common.{◌≡◌, ℕ, suc, ◌+◌, ◌-◌, ◌<◌, ◌≤◌, List, [], ◌∷◌, ◌++◌, length, map, sum, take, drop, get_or, refl, sym, ap, ◌∙◌, length-append, length-drop, drop-cons, add-one, arith, Result, Ok, Err, OnOk}
+use Rattle.std.proofs.Math.Seq.{take-append_seam, drop-append_seam}
+use Rattle.std.proofs.lemmas.List.{take-append-le, drop-append-le, take-append-drop, take_all, length-take-le}
+use Rattle.std.proofs.lemmas.List.Sums.{sum_by-cons, sum_by-drop_more}
 use Rattle.rdf_terms.specs.Lists.{Text, joined, sorted}
 use Rattle.canonical_writer.specs.Pieces.{pieces}
 
@@ -26,6 +27,45 @@ joined-pieces text [] e = sym (nothing text e)
 joined-pieces text (n ∷ ns) e =
     let r = rest_fits n ns text e in
     ap (λ t. take n text ++ t) (joined-pieces (drop n text) ns r.1) ∙ take-append-drop n text
+
+-- how long the pieces are
+pub lengths-pieces : (text : Text) (lengths : List ℕ) → sum lengths ≡ length text → map length (pieces text lengths) ≡ lengths
+lengths-pieces text [] e = refl
+lengths-pieces text (n ∷ ns) e =
+    let r = rest_fits n ns text e in
+    let l : length (take n text) ≡ n = length-take-le n text r.0 in
+    ap (λ m. m ∷ map length (pieces (drop n text) ns)) l ∙ ap (λ ms. n ∷ ms) (lengths-pieces (drop n text) ns r.1)
+
+pub sum-lengths : (ts : List Text) → sum (map length ts) ≡ length (joined ts)
+sum-lengths [] = refl
+sum-lengths (t ∷ ts) = sum-cons (length t) (map length ts) ∙ (ap (λ n. length t + n) (sum-lengths ts) ∙ sym (length-append t (joined ts)))
+
+-- texts one after the other, cut at their lengths
+pub pieces-joined : (ts : List Text) → pieces (joined ts) (map length ts) ≡ ts
+pieces-joined [] = refl
+pieces-joined (t ∷ ts) =
+    rw (take-append_seam t (joined ts), drop-append_seam t (joined ts)) (ap (λ us. t ∷ us) (pieces-joined ts))
+
+-- ---- the pieces from place i on, of which the first is cut off
+
+module _ (rest : Text) (lengths : List ℕ) (i d : ℕ) (bound : i < length lengths) where
+  abbrev first : ℕ
+  first = get_or lengths i d
+
+  pub pieces-next : (front behind : Text) → front ≡ take first rest → behind ≡ drop first rest → pieces rest (drop i lengths) ≡ front ∷ pieces behind (drop (i + 1) lengths)
+  pieces-next front behind f b =
+      ap (pieces rest) (drop-cons lengths i d bound)
+      ∙ (λ j. sym f j ∷ pieces (sym b j) (drop (sym (add-one i) j) lengths))
+
+  module _ (room : sum (drop i lengths) ≤ length rest) where
+    parts : sum (drop i lengths) ≡ first + sum (drop (i + 1) lengths)
+    parts = sum_by-drop_more (λ k. k) lengths i d bound
+
+    pub next_fits : first ≤ length rest
+    next_fits = omega (arith, parts)
+
+    pub others_fit : (behind : Text) → behind ≡ drop first rest → sum (drop (i + 1) lengths) ≤ length behind
+    others_fit behind b = omega (arith, parts, ap length b, length-drop first rest)
 
 -- one more line and its length
 pub pieces-more : (text line : Text) (lengths : List ℕ) → sum lengths ≡ length text → pieces (text ++ line) (lengths ++ length line ∷ []) ≡ pieces text lengths ++ line ∷ []

@@ -55,6 +55,13 @@ impl Lines {
         self.text.as_slice()
     }
 
+    /// How long each line is, in bytes.
+    pub(crate) fn lengths(&self) -> &[usize]
+        ensures { result.now ≡ map length self.now }
+    {
+        self.lengths.as_slice()
+    }
+
     /// Leaves no line, and keeps the memory.
     pub fn clear(&mut self)
         ensures { self.new ≡ [] }

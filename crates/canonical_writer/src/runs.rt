@@ -1,8 +1,9 @@
-ghost use Rattle.std.specs.Prelude.{◌≡◌, ◌==◌, [], length, map, All, IfOk};
+ghost use Rattle.std.specs.Prelude.{◌≡◌, ◌==◌, ◌≤◌, [], length, map, sum, All, IfOk};
 ghost use Rattle.std.specs.List.{prefix_len, flat_map, zip, AllZip};
 ghost use Rattle.std.specs.List.Sorted.{IsPermutation};
 ghost use Rattle.rdf_terms.specs.Document.{statement, IsInRange};
 ghost use Rattle.canonical_writer.specs.Names.{HasNames};
+ghost use Rattle.canonical_writer.specs.Pieces.{pieces};
 ghost use Rattle.canonical_writer.specs.Runs.{IsRun, KeysAscend};
 
 use crate::lines::Lines;
@@ -50,21 +51,26 @@ pub(crate) fn cut_at_subjects<'a, N: Names>(
     Ok(stretches)
 }
 
-/// Each stretch with its key.
+/// Each stretch with its key. The keys lie in the text one after the other, and have these lengths.
 fn with_keys<'a>(
     alloc: Global,
-    keys: &[&'a [u8]],
+    text: &'a [u8],
+    lengths: &[usize],
     stretches: &[&'a [Quad]],
 ) -> Result<Vec<Run<'a>>, NoMemory>
-    requires { length keys.now ≡ length stretches.now }
-    ensures { IfOk result (λ v. map (λ r. (r.key.now, r.quads.now)) v.items ≡ zip (map (λ k. k.now) keys.now) (map (λ p. p.now) stretches.now)) }
+    requires fit { sum lengths.now ≤ length text.now }
+    requires as_many { length lengths.now ≡ length stretches.now }
+    ensures { IfOk result (λ v. map (λ r. (r.key.now, r.quads.now)) v.items ≡ zip (pieces text.now lengths.now) (map (λ p. p.now) stretches.now)) }
 {
     let mut runs = Vec::with_capacity(alloc, stretches.len())?;
-    for place in 0..stretches.len() {
+    let mut rest = text;
+    for (place, length) in lengths.iter().enumerate() {
+        let (key, behind) = rest.split_at(*length);
         runs.push(Run {
-            key: keys[place],
+            key,
             quads: stretches[place],
         })?;
+        rest = behind;
     }
     Ok(runs)
 }
@@ -87,8 +93,7 @@ pub(crate) fn sorted_runs<'a>(
     ensures permutation { IfOk result (λ v. IsPermutation (zip keys.now (map (λ p. p.now) stretches.now)) (map (λ r. (r.key.now, r.quads.now)) v.items)) }
     ensures sorted { IfOk result (λ v. KeysAscend (λ r. r.key.now) v.items) }
 {
-    let parts = keys.split(alloc)?;
-    let mut runs = with_keys(alloc, parts.as_slice(), stretches)?;
+    let mut runs = with_keys(alloc, keys.text(), keys.lengths(), stretches)?;
     sort_by_key(&mut runs);
     Ok(runs)
 }
