@@ -8,6 +8,7 @@ pub mod Splitting
 mod Fronts
 mod Groups
 mod Stretches
+mod FrontOrder
 pub mod Unescaping
 pub mod TermTexts
 pub mod LineTexts

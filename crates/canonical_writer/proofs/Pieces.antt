@@ -36,9 +36,13 @@ lengths-pieces text (n ∷ ns) e =
     let l : length (take n text) ≡ n = length-take-le n text r.0 in
     ap (λ m. m ∷ map length (pieces (drop n text) ns)) l ∙ ap (λ ms. n ∷ ms) (lengths-pieces (drop n text) ns r.1)
 
-pub sum-lengths : (ts : List Text) → sum (map length ts) ≡ length (joined ts)
+sum-lengths : (ts : List Text) → sum (map length ts) ≡ length (joined ts)
 sum-lengths [] = refl
 sum-lengths (t ∷ ts) = sum-cons (length t) (map length ts) ∙ (ap (λ n. length t + n) (sum-lengths ts) ∙ sym (length-append t (joined ts)))
+
+-- texts lie one after the other in a text, with these lengths
+pub lengths_fit : (ts : List Text) (text : Text) (lengths : List ℕ) → text ≡ joined ts → lengths ≡ map length ts → sum lengths ≤ length text
+lengths_fit ts text lengths t l = let full : sum lengths ≡ length text = ap sum l ∙ (sum-lengths ts ∙ sym (ap length t)) in omega arith
 
 -- texts one after the other, cut at their lengths
 pub pieces-joined : (ts : List Text) → pieces (joined ts) (map length ts) ≡ ts

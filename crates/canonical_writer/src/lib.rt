@@ -8,6 +8,7 @@ pub use names::{DegreeNames, Names, NumberNames};
 pub use sorted::{write_sorted, write_sorted_in};
 
 mod escape;
+mod key_fronts;
 pub mod laws;
 mod line;
 mod lines;
