@@ -9,6 +9,7 @@ mod Fronts
 mod Groups
 mod Stretches
 mod FrontOrder
+mod FrontStretches
 pub mod Unescaping
 pub mod TermTexts
 pub mod LineTexts

@@ -16,5 +16,6 @@ mod list_names;
 mod names;
 mod numeral;
 mod room;
+mod run_order;
 mod runs;
 mod sorted;

@@ -1,22 +1,20 @@
 ghost use Rattle.std.specs.Prelude.{◌≡◌, ◌==◌, ◌≤◌, [], length, map, sum, All, IfOk};
-ghost use Rattle.std.specs.Io.{StartsWith};
 ghost use Rattle.std.specs.List.{prefix_len, flat_map, zip, AllZip};
 ghost use Rattle.std.specs.List.Sorted.{IsPermutation};
 ghost use Rattle.rdf_terms.specs.Document.{statement, IsInRange};
-ghost use Rattle.canonical_writer.specs.KeyFronts.{IsFront};
 ghost use Rattle.canonical_writer.specs.Names.{HasNames};
 ghost use Rattle.canonical_writer.specs.Pieces.{pieces};
 ghost use Rattle.canonical_writer.specs.Runs.{IsRun, KeysAscend};
 
-use crate::key_fronts::{common_start, front};
 use crate::lines::Lines;
 use crate::names::Names;
+use crate::run_order::sort_by_key;
 use rdf_terms::{NoMemory, Quad, TermTable};
 use std::alloc::Global;
 
-/// Quads of one subject, and the text that their lines begin with: the subject and a space. The front
-/// of this key stands beside it, so that two runs compare without a look at their keys, which lie far
-/// apart in memory.
+/// Quads of one subject, and the text that their lines begin with: the subject and a space. A front of
+/// this key stands beside it, so that two runs compare without a look at their keys, which lie far
+/// apart in memory. It is noted when the runs are put in order, and 0 before.
 #[derive(Clone, Copy, Debug)]
 pub(crate) struct Run<'a> {
     pub front: u64,
@@ -57,43 +55,29 @@ pub(crate) fn cut_at_subjects<'a, N: Names>(
     Ok(stretches)
 }
 
-/// Each stretch with its key. The keys lie in the text one after the other, have these lengths, and
-/// all begin with this start.
+/// Each stretch with its key. The keys lie in the text one after the other, and have these lengths.
 fn with_keys<'a>(
     alloc: Global,
     text: &'a [u8],
     lengths: &[usize],
     stretches: &[&'a [Quad]],
-    start: &[u8],
 ) -> Result<Vec<Run<'a>>, NoMemory>
     requires fit { sum lengths.now ≤ length text.now }
     requires as_many { length lengths.now ≡ length stretches.now }
-    requires begin { All (λ t. StartsWith t start.now) (pieces text.now lengths.now) }
-    ensures pairs { IfOk result (λ v. map (λ r. (r.key.now, r.quads.now)) v.items ≡ zip (pieces text.now lengths.now) (map (λ p. p.now) stretches.now)) }
-    ensures fronts { IfOk result (λ v. All (λ r. IsFront start.now r.key.now r.front) v.items) }
+    ensures { IfOk result (λ v. map (λ r. (r.key.now, r.quads.now)) v.items ≡ zip (pieces text.now lengths.now) (map (λ p. p.now) stretches.now)) }
 {
     let mut runs = Vec::with_capacity(alloc, stretches.len())?;
     let mut rest = text;
     for (place, length) in lengths.iter().enumerate() {
         let (key, behind) = rest.split_at(*length);
         runs.push(Run {
-            front: front(key, start),
+            front: 0,
             key,
             quads: stretches[place],
         })?;
         rest = behind;
     }
     Ok(runs)
-}
-
-/// Puts the runs in the order of their keys, which all begin with this start. The fronts tell most of
-/// them apart.
-fn sort_by_key(runs: &mut Vec<Run<'_>>, start: &[u8])
-    requires { All (λ r. IsFront start.now r.key.now r.front) runs.old.items }
-    ensures permutation { IsPermutation runs.old.items runs.new.items }
-    ensures sorted { KeysAscend (λ r. r.key.now) runs.new.items }
-{
-    runs.sort_unstable_by_key(|run| (run.front, run.key));
 }
 
 /// The stretches with their keys, in the order of the keys.
@@ -106,10 +90,7 @@ pub(crate) fn sorted_runs<'a>(
     ensures permutation { IfOk result (λ v. IsPermutation (zip keys.now (map (λ p. p.now) stretches.now)) (map (λ r. (r.key.now, r.quads.now)) v.items)) }
     ensures sorted { IfOk result (λ v. KeysAscend (λ r. r.key.now) v.items) }
 {
-    let text = keys.text();
-    let lengths = keys.lengths();
-    let start = common_start(text, lengths);
-    let mut runs = with_keys(alloc, text, lengths, stretches, start)?;
-    sort_by_key(&mut runs, start);
+    let mut runs = with_keys(alloc, keys.text(), keys.lengths(), stretches)?;
+    sort_by_key(&mut runs);
     Ok(runs)
 }

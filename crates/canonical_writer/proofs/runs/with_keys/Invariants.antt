@@ -1,7 +1,5 @@
-use Rattle.std.proofs.Common.{◌≡◌, ◌≤◌, ◌++◌, length, map, sum, drop, All}
-use Rattle.std.specs.Io.{StartsWith}
+use Rattle.std.proofs.Common.{◌≡◌, ◌≤◌, ◌++◌, length, map, sum, drop}
 use Rattle.std.specs.List.{zip}
-use Rattle.canonical_writer.specs.KeyFronts.{IsFront}
 use Rattle.canonical_writer.specs.Pieces.{pieces}
 use Rattle.canonical_writer.proofs.runs.with_keys.Given as goal
 
@@ -9,7 +7,5 @@ use Rattle.canonical_writer.proofs.runs.with_keys.Given as goal
 abbrev pub invariant-loop-place : goal.invariant-loop-place
 invariant-loop-place l = record {
   pairs : map (λ r. (r.key.now, r.quads.now)) l.runs.items ++ zip (pieces l.rest (drop l.place l.lengths)) (map (λ p. p.now) (drop l.place l.stretches)) ≡ zip (pieces l.text l.lengths) (map (λ p. p.now) l.stretches);
-  begin : All (λ t. StartsWith t l.start) (pieces l.rest (drop l.place l.lengths));
-  fronts : All (λ r. IsFront l.start r.key.now r.front) l.runs.items;
   room : sum (drop l.place l.lengths) ≤ length l.rest;
 }
