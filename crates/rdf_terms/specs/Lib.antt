@@ -13,3 +13,4 @@ pub mod Document
 pub mod Ends
 pub mod DigestedTerm
 pub mod NodeNumber
+pub mod QuadHash

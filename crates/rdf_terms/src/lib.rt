@@ -21,6 +21,7 @@ mod memory;
 mod node_number;
 mod numbering;
 mod parsed;
+mod quad_hash;
 mod table;
 mod term;
 mod term_ref;

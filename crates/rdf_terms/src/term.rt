@@ -30,7 +30,7 @@ pub enum LiteralKind {
 }
 
 /// A quad, by the numbers of its terms in a table: subject, predicate, object and graph name.
-#[derive(Clone, Copy, Debug, PartialEq, Eq, PartialOrd, Ord, Hash)]
+#[derive(Clone, Copy, Debug, PartialEq, Eq, PartialOrd, Ord)]
 pub struct Quad {
     pub s: u32,
     pub p: u32,
