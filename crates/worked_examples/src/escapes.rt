@@ -1,8 +1,8 @@
-//! Canonical lines (RDF Dataset Canonicalization, appendix A): the escapes of strings, and what is
-//! written behind them.
+//! Canonical lines (RDF Dataset Canonicalization, appendix A): the escapes of strings, what is
+//! written behind them, and the order of lines.
 
-use canonical_writer::{NumberNames, push_line};
-use rdf_terms::{Literal, LiteralKind, NoMemory, Quad, Term, TermTable, TermText};
+use canonical_writer::{NumberNames, push_line, write_sorted};
+use rdf_terms::{Bytes, Literal, LiteralKind, NoMemory, Quad, Term, TermTable, TermText};
 use std::alloc::Global;
 use std::process::Abort;
 use std::test::Fail;
@@ -133,4 +133,41 @@ fn a_datatype_and_a_tag_are_written_behind_the_string(rt: HostRuntime) -> Result
     let tagged = tagged(alloc, "ja", "de-CH")?;
     let want = "<http://e/s> <http://e/p> \"ja\"@de-CH .\n";
     expect_line(&rt, alloc, tagged, want, "ja")
+}
+
+// The text of two quads, of which the second comes first; nothing if a term has no number.
+#[tactic(auto, using(canonical_writer::proofs::NamedNodes::has_numbered_names))]
+fn text_of_two(alloc: Global) -> Result<Bytes, NoMemory> {
+    let mut terms = TermTable::new(alloc);
+    let b = number_of(&mut terms, Term::Iri(TermText::copy(alloc, "e:b")?))?;
+    let a = number_of(&mut terms, Term::Iri(TermText::copy(alloc, "e:a")?))?;
+    let first = Quad {
+        s: b,
+        p: b,
+        o: a,
+        g: None,
+    };
+    let second = Quad {
+        s: a,
+        p: b,
+        o: b,
+        g: None,
+    };
+    if a < terms.len() && b < terms.len() {
+        write_sorted(alloc, &terms, &[first, second], &NumberNames)
+    } else {
+        Ok(Bytes::new(Vec::new(alloc)))
+    }
+}
+
+fn is_text_of_two(alloc: Global, want: &str) -> Result<bool, NoMemory> {
+    let text = text_of_two(alloc)?;
+    Ok(text.as_slice() == want.as_bytes())
+}
+
+#[test]
+fn lines_are_written_in_byte_order(rt: HostRuntime) -> Result<(), Fail> {
+    let want = "<e:a> <e:b> <e:b> .\n<e:b> <e:b> <e:a> .\n";
+    assert!(rt; is_text_of_two(rt.alloc(), want)?);
+    Ok(())
 }
