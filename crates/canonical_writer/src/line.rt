@@ -220,7 +220,8 @@ fn push_suffix(out: &mut Vec<u8>, kind: &LiteralKind) -> Result<(), NoMemory>
     Ok(())
 }
 
-fn is_string_type(iri: &TermText) -> bool
+#[inline]
+pub(crate) fn is_string_type(iri: &TermText) -> bool
     ensures { result ≡ bytes_eq iri.now xsd_string }
 {
     iri.as_str() == XSD_STRING

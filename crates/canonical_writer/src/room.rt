@@ -1,22 +1,22 @@
 ghost use Rattle.std.specs.Prelude.{◌≡◌, ◌≤◌, length};
 
+use crate::line::is_string_type;
 use crate::runs::Run;
-use rdf_terms::{NoMemory, Quad, Term, TermTable};
+use rdf_terms::{Literal, LiteralKind, NoMemory, Quad, Term, TermTable};
 
 // How many runs room is made for at once.
 const RUNS_AT_ONCE: usize = 16;
 
-// What is counted for all of a line but its subject and the text of its object. What is written may
-// be longer, or shorter: the text grows by itself where it has to.
+// What is counted for all of a line but its subject and the texts of its object and graph name. What
+// is written may be longer, or shorter: the text grows by itself where it has to.
 const REST_LEN: usize = 64;
 
 /// At each place that is a multiple of `RUNS_AT_ONCE`, makes room in the text for the lines of so
 /// many runs from there on.
 ///
-/// To add up how long these lines will be, each of their objects is looked at. In the table the
-/// objects of two quads lie far apart, and seldom in the processor's cache. Here no look waits for
-/// the one before it, so that many are fetched at a time, and when the lines are written the objects
-/// are at hand.
+/// To add up how long these lines will be, their keys, objects and graph names are looked at. Those of
+/// two quads lie far apart in memory, and seldom in the processor's cache. Here no look waits for the
+/// one before it, so that many are fetched at a time, and when the lines are written they are at hand.
 pub(crate) fn make_room(
     text: &mut Vec<u8>,
     terms: &TermTable,
@@ -36,20 +36,40 @@ pub(crate) fn make_room(
 fn runs_len(terms: &TermTable, runs: &[Run<'_>]) -> usize {
     let mut len = 0usize;
     for run in runs.iter().take(RUNS_AT_ONCE) {
-        let others_len = run.key.len().wrapping_add(REST_LEN);
+        let others_len = key_len(run.key).wrapping_add(REST_LEN);
         len = len
             .wrapping_add(run.quads.len().wrapping_mul(others_len))
-            .wrapping_add(objects_len(terms, run.quads));
+            .wrapping_add(texts_len(terms, run.quads));
     }
     len
 }
 
-fn objects_len(terms: &TermTable, quads: &[Quad]) -> usize {
+/// A key begins with an IRI or a label, and by a look at its first byte it is fetched.
+#[inline]
+fn key_len(key: &[u8]) -> usize {
+    match key.first() {
+        Some(b'<' | b'_') => key.len(),
+        _ => 0,
+    }
+}
+
+/// How long the texts of the objects and graph names are.
+fn texts_len(terms: &TermTable, quads: &[Quad]) -> usize {
     let mut len = 0usize;
     for quad in quads {
-        len = len.wrapping_add(text_len(terms, quad.o));
+        len = len
+            .wrapping_add(text_len(terms, quad.o))
+            .wrapping_add(graph_name_len(terms, quad.g));
     }
     len
+}
+
+#[inline]
+fn graph_name_len(terms: &TermTable, number: Option<u32>) -> usize {
+    match number {
+        Some(graph_name) => text_len(terms, graph_name),
+        None => 0,
+    }
 }
 
 /// How long the text of the term with this number is. A node has none.
@@ -57,7 +77,17 @@ fn objects_len(terms: &TermTable, quads: &[Quad]) -> usize {
 fn text_len(terms: &TermTable, number: u32) -> usize {
     match terms.get(number) {
         Some(Term::Iri(iri)) => iri.as_str().len(),
-        Some(Term::Literal(literal)) => literal.lexical.as_str().len(),
+        Some(Term::Literal(literal)) => literal_len(literal),
         Some(Term::Blank(_)) | None => 0,
     }
+}
+
+#[inline]
+fn literal_len(literal: &Literal) -> usize {
+    let suffix_len = match &literal.kind {
+        LiteralKind::Typed(iri) if is_string_type(iri) => 0,
+        LiteralKind::Typed(iri) => iri.as_str().len(),
+        LiteralKind::Tagged(tag) => tag.as_str().len(),
+    };
+    literal.lexical.as_str().len().wrapping_add(suffix_len)
 }
