@@ -8,7 +8,7 @@ pub mod Splitting
 mod Fronts
 mod Groups
 mod Stretches
-mod FrontOrder
+pub mod FrontOrder
 mod FrontStretches
 pub mod Unescaping
 pub mod TermTexts

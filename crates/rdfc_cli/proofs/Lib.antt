@@ -4,3 +4,4 @@ pub mod Decimals
 pub mod Noting
 pub mod NodeOrder
 pub mod Ordering
+mod HashFronts

@@ -14,6 +14,7 @@ mod files;
 mod form;
 mod notes;
 mod order;
+mod ranked;
 mod status;
 mod words;
 mod write;

@@ -6,46 +6,47 @@ ghost use Rattle.std.specs.Cmp.Lexicographic.{slice_cmp};
 ghost use Rattle.rdf_terms.specs.Lists.{is_before, numbers_below, Permutes};
 ghost use Rattle.rdfc_cli.specs.Order.{hash_in, IsOrderBy, HasEqualHashes};
 
+use crate::ranked::Ranked;
 use canon_model::HexHash;
 use rdf_terms::NoMemory;
 use std::alloc::Global;
 
 // Each hash with the node that has it.
-fn with_nodes(
+fn with_nodes<'a>(
     alloc: Global,
     nodes: u32,
-    hashes: &[HexHash],
-) -> Result<Vec<(HexHash, u32)>, NoMemory>
+    hashes: &'a [HexHash],
+) -> Result<Vec<Ranked<'a>>, NoMemory>
     requires { nodes ≡ length hashes.now }
     ensures { IfOk result (λ pairs. pairs.items ≡ map (λ n. (hash_in hashes.now n, n)) (numbers_below nodes)) }
 {
     let mut pairs = Vec::with_capacity(alloc, nodes as usize)?;
     for node in 0..nodes {
-        pairs.push((hashes[node as usize], node))?;
+        pairs.push(Ranked::new(&hashes[node as usize], node))?;
     }
     Ok(pairs)
 }
 
 // Puts the pairs in the order of their hashes.
-fn sort_by_hash(pairs: &mut Vec<(HexHash, u32)>)
+fn sort_by_hash(pairs: &mut Vec<Ranked<'_>>)
     ensures permutation { Permutes pairs.old.items pairs.new.items }
     ensures sorted { IsSortedByKey (λ p. p.0) (slice_cmp nat_cmp) pairs.new.items }
 {
-    pairs.sort_unstable_by_key(|pair| pair.0);
+    pairs.sort_unstable_by(|pair, other| pair.compare_hashes(other));
 }
 
 // The nodes of the pairs.
-fn nodes_of(alloc: Global, pairs: &[(HexHash, u32)]) -> Result<Vec<u32>, NoMemory>
+fn nodes_of(alloc: Global, pairs: &[Ranked<'_>]) -> Result<Vec<u32>, NoMemory>
     ensures { IfOk result (λ nodes. nodes.items ≡ map (λ p. p.1) pairs.now) }
 {
-    Ok(pairs.iter().map(|pair| pair.1).collect(alloc)?)
+    Ok(pairs.iter().map(|pair| pair.node()).collect(alloc)?)
 }
 
 // Whether each hash is before the next one.
-fn is_ascending(pairs: &[(HexHash, u32)]) -> bool
+fn is_ascending(pairs: &[Ranked<'_>]) -> bool
     ensures { IsAllAdjacentAnswer (λ x y b. b ≡ is_before x.0 y.0) pairs.now result }
 {
-    pairs.is_sorted_by(|pair, next| pair.0 < next.0)
+    pairs.is_sorted_by(|pair, next| pair.compare_hashes(next).is_lt())
 }
 
 /// The nodes in the code point order of their hashes, where each place has the hash of the node with this number, and

@@ -1,10 +1,15 @@
-use Rattle.std.proofs.lemmas.List.Sorted.{answers_always}
+use Rattle.std.proofs.lemmas.List.Sorted.{answers_always, ranks_by}
+use Rattle.std.proofs.lemmas.Cmp.{nat_list_cmp_total}
 use Rattle.std.proofs.Common.{rules}
+use Rattle.std.specs.Ordering.{is_lt, nat_cmp}
+use Rattle.std.specs.Cmp.Lexicographic.{slice_cmp}
 use Rattle.rdf_terms.proofs.Permutations.{Permutes-from_IsPermutation}
+use Rattle.rdfc_cli.proofs.NodeOrder.{hash_of}
 use Rattle.rdfc_cli.proofs.order.sort_by_hash.Goals as goal
 
 pub returns-clause-permutation : goal.returns-clause-permutation
-returns-clause-permutation c = Permutes-from_IsPermutation _ _ c.sort_unstable_by_key.ensures.permutation
+returns-clause-permutation c = Permutes-from_IsPermutation _ _ c.sort_unstable_by.ensures.permutation
 
 pub returns-clause-sorted : goal.returns-clause-sorted
-returns-clause-sorted c = c.sort_unstable_by_key.ensures.sorted (λ p. p.0) (answers_always _ _ _ (λ f a r g h. search rules))
+returns-clause-sorted c =
+    c.sort_unstable_by.ensures.sorted (λ x y. is_lt (slice_cmp nat_cmp (hash_of x) (hash_of y))) (ranks_by nat_list_cmp_total hash_of) (answers_always _ _ _ (λ f a r g h. search rules))
