@@ -1,5 +1,5 @@
 -- The classes of characters in the grammars of RDF 1.1 N-Quads (section 4) and RDF 1.1 TriG (section 4.5), each under the name that it has there.
-use Rattle.std.specs.Prelude.{ℕ, Bool, not, [], ◌∷◌, ◌++◌}
+use Rattle.std.specs.Prelude.{ℕ, Bool, not, ◌&&◌, nat_lt, [], ◌∷◌, ◌++◌}
 use Rattle.char_tables.specs.Rows.{Rows, is_in}
 
 -- PN_CHARS_BASE, the same in both
@@ -20,6 +20,10 @@ pn_chars_u_trig = pn_chars_base ++ (0x5F, 0x5F) ∷ []
 -- PN_CHARS of TriG: `-`, the digits, U+00B7, U+0300 to U+036F, and U+203F and U+2040 too
 abbrev pub pn_chars : Rows
 pn_chars = pn_chars_u_trig ++ (0x2D, 0x2D) ∷ (0x30, 0x39) ∷ (0xB7, 0xB7) ∷ (0x300, 0x36F) ∷ (0x203F, 0x2040) ∷ []
+
+-- whether the character is an ASCII one of PN_CHARS
+abbrev pub is_ascii_pn : ℕ → Bool
+is_ascii_pn c = nat_lt c 128 && is_in pn_chars c
 
 -- what IRIREF excludes: U+0000 to U+0020, `"`, `<`, `>`, `\`, `^`, the grave accent, `{`, `|` and `}`
 abbrev pub excluded_from_iriref : Rows

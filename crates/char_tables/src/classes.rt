@@ -1,6 +1,6 @@
 ghost use Rattle.std.specs.Prelude.{◌≡◌, not};
 ghost use Rattle.char_tables.specs.Rows.{is_in};
-ghost use Rattle.char_tables.specs.Classes.{pn_chars_base, pn_chars_u_nquads, pn_chars_u_trig, pn_chars, excluded_from_iriref, hex};
+ghost use Rattle.char_tables.specs.Classes.{pn_chars_base, pn_chars_u_nquads, pn_chars_u_trig, pn_chars, is_ascii_pn, excluded_from_iriref, hex};
 
 use crate::Ranges;
 
@@ -34,6 +34,17 @@ static IRI_BYTES: [u8; 256] = *b"\
     ~~~~~~~~~~~~~~~~~~~~~~~~~~~~~~~~\
     ~~~~~~~~~~~~~~~~~~~~~~~~~~~~~~~~\
     ~~~~~~~~~~~~~~~~~~~~~~~~~~~~~~~~";
+
+// The byte itself for each ASCII character of PN_CHARS, and a `|` for any other byte.
+static PN_BYTES: [u8; 256] = *b"\
+    ||||||||||||||||||||||||||||||||\
+    |||||||||||||-||0123456789||||||\
+    |ABCDEFGHIJKLMNOPQRSTUVWXYZ||||_\
+    |abcdefghijklmnopqrstuvwxyz|||||\
+    ||||||||||||||||||||||||||||||||\
+    ||||||||||||||||||||||||||||||||\
+    ||||||||||||||||||||||||||||||||\
+    ||||||||||||||||||||||||||||||||";
 
 // Whether a character is an ASCII one of those given, or in one of the tables of the others.
 macro_rules! is_member {
@@ -77,6 +88,14 @@ pub fn is_pn(c: char) -> bool
         BASE,
         INNER
     )
+}
+
+/// Whether the byte is an ASCII character of PN_CHARS (RDF 1.1 TriG, section 4.5).
+#[inline]
+pub fn is_pn_byte(byte: u8) -> bool
+    ensures { result ≡ is_ascii_pn byte }
+{
+    PN_BYTES[byte as usize] != b'|'
 }
 
 /// Whether the character may stand unescaped in an IRIREF (RDF 1.1 N-Quads, section 4).

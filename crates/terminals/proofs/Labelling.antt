@@ -1,10 +1,13 @@
 -- How far a label goes.
-use Rattle.std.proofs.Common.{◌≡◌, ◌≢◌, ℕ, zero, suc, ◌+◌, ◌-◌, ◌<◌, ◌≤◌, Bool, true, false, not, ◌||◌, ◌==◌, List, [], ◌∷◌, ◌++◌, All, length, get_or, refl, sym, ap, subst, ◌∙◌, arith, ◌⊎◌, inl, inr, true≢false}
+use Rattle.std.proofs.Common.{◌≡◌, ◌≢◌, ℕ, zero, suc, ◌+◌, ◌-◌, ◌<◌, ◌≤◌, Bool, true, false, not, ◌||◌, ◌==◌, List, [], ◌∷◌, ◌++◌, All, length, drop, get_or, nat_lt, refl, sym, ap, subst, ◌∙◌, arith, ◌⊎◌, inl, inr, true≢false}
 use Rattle.std.specs.Prelude.{encode_utf8, encode_utf8_all}
-use Rattle.std.proofs.lemmas.Bool.{or_left, or_right, or_from, eq-eqb, ne_eqb, cases_lt}
+use Rattle.std.specs.List.{prefix_len}
+use Rattle.std.proofs.lemmas.Bool.{and_parts, or_left, or_right, or_from, eq-eqb, ne_eqb, ltb-true, cases_Bool, cases_lt}
 use Rattle.std.proofs.lemmas.List.{append_assoc, length-append, get_or_at, get_or-append_right, get_or_append_left}
 use Rattle.std.proofs.lemmas.List.Elements.{All-push}
-use Rattle.std.proofs.lemmas.Str.{cons_from_encodes, encode_same, encodes-append, length-encode, len_utf8_bounds}
+use Rattle.std.proofs.lemmas.Str.{cons_from_encodes, encode_ascii, encode_same, encodes-append, length-encode, len_utf8_bounds}
+use Rattle.char_tables.specs.Rows.{is_in}
+use Rattle.char_tables.specs.Classes.{pn_chars, is_ascii_pn}
 use Rattle.terminals.specs.declared.labels.Grammar.{Grammar}
 use Rattle.terminals.specs.declared.labels.Grammar.TheVariants.{NQuads, TriG}
 use Rattle.terminals.specs.Terminal.{Characters, BeginsWith}
@@ -95,6 +98,29 @@ labelled_more grammar text end rest next c so first ends =
       fits = inr (so.front ++ so.dots, c, refl, all_append (λ x. is_inner grammar x ≡ true) so.front so.dots (goes_on_all grammar so.front so.fits) (dots_inner grammar so.dots so.all_dots), ends);
       all_dots = λ k d l. absurd (omega arith);
     }
+
+pub pn_ascii : (c : ℕ) → is_ascii_pn c ≡ true → c < 128
+pn_ascii c h = ltb-true c 128 (and_parts (nat_lt c 128) (is_in pn_chars c) h).0
+
+pn_ends : (grammar : Grammar) (c : ℕ) → is_ascii_pn c ≡ true → ends_label grammar c ≡ true
+pn_ends grammar c h = by grammar (and_parts (nat_lt c 128) (is_in pn_chars c) h).1
+  where
+    by : (g : Grammar) → is_in pn_chars c ≡ true → ends_label g c ≡ true
+    by NQuads in_class = or_left (is_in pn_chars c) (c == 58) in_class
+    by TriG in_class = in_class
+
+-- a label goes on over ASCII characters of PN_CHARS
+pub labelled_ascii : (grammar : Grammar) (text rest next : List ℕ) → Labelled grammar text rest rest → next ≡ drop (prefix_len is_ascii_pn rest) rest → Labelled grammar text next next
+labelled_ascii grammar text [] next so cut = subst (λ r. Labelled grammar text r r) (sym cut) so
+labelled_ascii grammar text (c ∷ cs) next so cut = by (cases_Bool (is_ascii_pn c)) (labelled_ascii grammar text cs next)
+  where
+    by : (is_ascii_pn c ≡ true) ⊎ (is_ascii_pn c ≡ false) → (Labelled grammar text cs cs → next ≡ drop (prefix_len is_ascii_pn cs) cs → Labelled grammar text next next)
+        → Labelled grammar text next next
+    by (inr stops) onward = subst (λ r. Labelled grammar text r r) (sym (rw stops at cut)) so
+    by (inl passes) onward =
+        let one : c ∷ cs ≡ encode_utf8 c ++ cs = ap (λ f. f ++ cs) (sym (encode_ascii c (pn_ascii c passes))) in
+        let len : prefix_len is_ascii_pn (c ∷ cs) ≡ suc (prefix_len is_ascii_pn cs) = rw passes (omega arith) in
+        onward (labelled_more grammar text (c ∷ cs) (c ∷ cs) cs c so one (pn_ends grammar c passes)) (cut ∙ ap (λ n. drop n (c ∷ cs)) len)
 
 pub labelled_dot : (grammar : Grammar) (text end rest next : List ℕ) (c : ℕ) → Labelled grammar text end rest → rest ≡ encode_utf8 c ++ next → c ≡ 46 → Labelled grammar text end next
 labelled_dot grammar text end rest next c so first dot =

@@ -55,7 +55,7 @@ against_dashes p dash (z ∷ xs) (c ∷ other) after subtags rest e x y stops =
 pub alphanumeric_ascii : (c : ℕ) → is_ascii_alphanumeric c ≡ true → c < 128
 alphanumeric_ascii c h = grind (arith, nat_tests)
 
-alphabetic_ascii : (c : ℕ) → is_ascii_alphabetic c ≡ true → c < 128
+pub alphabetic_ascii : (c : ℕ) → is_ascii_alphabetic c ≡ true → c < 128
 alphabetic_ascii c h = grind (arith, nat_tests)
 
 pub utf8_behind_mark : (text rest : List ℕ) (mark : ℕ) → mark < 128 → text ≡ mark ∷ rest → IsUtf8 text → IsUtf8 rest
@@ -65,15 +65,10 @@ utf8_behind_mark text rest mark ascii e utf8 = IsUtf8-past_char text rest mark u
 pub cut_behind_ascii : (text : List ℕ) (n : ℕ) → IsUtf8 text → n ≤ length text → IsAscii (take n text) → IsCharBoundary text n
 cut_behind_ascii text n utf8 within ascii = IsCharBoundary-from_take text n utf8 within (IsUtf8-from_ascii (take n text) ascii)
 
-pub cut_behind_letters : (text : List ℕ) (n : ℕ) → IsUtf8 text → n ≡ prefix_len is_ascii_alphabetic text → n ≤ length text → IsCharBoundary text n
-cut_behind_letters text n utf8 is within =
-    let all = subst (λ k. Passing is_ascii_alphabetic (take k text)) (sym is) (passing_front is_ascii_alphabetic text) in
-    cut_behind_ascii text n utf8 within (IsAscii-from_all (take n text) (λ k d l. alphabetic_ascii _ (all k d l)))
-
-pub cut_behind_alphanumeric : (text : List ℕ) (n : ℕ) → IsUtf8 text → n ≡ prefix_len is_ascii_alphanumeric text → n ≤ length text → IsCharBoundary text n
-cut_behind_alphanumeric text n utf8 is within =
-    let all = subst (λ k. Passing is_ascii_alphanumeric (take k text)) (sym is) (passing_front is_ascii_alphanumeric text) in
-    cut_behind_ascii text n utf8 within (IsAscii-from_all (take n text) (λ k d l. alphanumeric_ascii _ (all k d l)))
+pub cut_behind_passing : (p : ℕ → Bool) → ((c : ℕ) → p c ≡ true → c < 128) → (text : List ℕ) (n : ℕ) → IsUtf8 text → n ≡ prefix_len p text → n ≤ length text → IsCharBoundary text n
+cut_behind_passing p ascii text n utf8 is within =
+    let all = subst (λ k. Passing p (take k text)) (sym is) (passing_front p text) in
+    cut_behind_ascii text n utf8 within (IsAscii-from_all (take n text) (λ k d l. ascii _ (all k d l)))
 
 -- ---- subtags
 

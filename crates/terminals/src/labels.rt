@@ -1,9 +1,11 @@
-ghost use Rattle.std.specs.Prelude.{◌≡◌, IfSome, IfNone};
+ghost use Rattle.std.specs.Prelude.{◌≡◌, ◌≤◌, length, drop, IfSome, IfNone};
+ghost use Rattle.std.specs.List.{prefix_len};
+ghost use Rattle.char_tables.specs.Classes.{is_ascii_pn};
 ghost use Rattle.terminals.specs.Terminal.{TextBeginsWith, TextBeginsWithNone};
 ghost use Rattle.terminals.specs.Terminals.{begins_label, ends_label, GoesOnAsLabelIn, BlankNodeLabel};
 
 use crate::fronts::{after, first_char};
-use char_tables::{is_pn, is_pn_u_nq, is_pn_u_ttl};
+use char_tables::{is_pn, is_pn_byte, is_pn_u_nq, is_pn_u_ttl};
 
 /// Whose classes of characters a label is read by.
 #[derive(Clone, Copy, Debug, PartialEq, Eq)]
@@ -36,20 +38,42 @@ impl Grammar {
     }
 }
 
+// How many ASCII characters of PN_CHARS stand at the front.
+#[inline]
+fn ascii_len(text: &str) -> usize
+    ensures is { result ≡ prefix_len is_ascii_pn text.now }
+    ensures within { result ≤ length text.now }
+{
+    text.as_bytes()
+        .iter()
+        .take_while(|byte| is_pn_byte(**byte))
+        .count()
+}
+
+// What follows the ASCII characters of PN_CHARS at the front. By each of them a label may end.
+#[inline]
+fn after_ascii(text: &str) -> &str
+    ensures { result.now ≡ drop (prefix_len is_ascii_pn text.now) text.now }
+{
+    &text[ascii_len(text)..]
+}
+
 // What follows the label whose first character stands before the text: a label may hold dots, but
 // it does not end in one.
 fn after_label(text: &str, grammar: Grammar) -> &str
     ensures { GoesOnAsLabelIn grammar text.now result.now }
 {
-    let mut end = text;
-    let mut rest = text;
+    let mut end = after_ascii(text);
+    let mut rest = end;
     while let Some((c, next)) = first_char(rest) {
         if grammar.ends_label(c) {
-            end = next;
-        } else if c != '.' {
+            end = after_ascii(next);
+            rest = end;
+        } else if c == '.' {
+            rest = next;
+        } else {
             break;
         }
-        rest = next;
     }
     end
 }

@@ -1,10 +1,11 @@
 use Rattle.std.proofs.Common.{arith}
-use Rattle.terminals.proofs.Tagging.{utf8_behind_mark, cut_behind_alphanumeric, subtag_found}
+use Rattle.std.specs.Char.{is_ascii_alphanumeric}
+use Rattle.terminals.proofs.Tagging.{alphanumeric_ascii, utf8_behind_mark, cut_behind_passing, subtag_found}
 use Rattle.terminals.proofs.tags.after_subtag.Goals as goal
 
 pub range_from-requires : goal.range_from-requires
 range_from-requires c =
-    λ _. cut_behind_alphanumeric c.in_ok-subtag.subtag.now c.alphanumeric_len-len.result
+    λ _. cut_behind_passing is_ascii_alphanumeric alphanumeric_ascii c.in_ok-subtag.subtag.now c.alphanumeric_len-len.result
     (utf8_behind_mark c.args.text.now c.in_ok-subtag.subtag.now 45 (omega arith) c.in_ok-subtag.ensures.found c.utf8.text)
     c.alphanumeric_len-len.ensures.is c.alphanumeric_len-len.ensures.within
 

@@ -1,10 +1,11 @@
 use Rattle.std.proofs.Common.{arith}
-use Rattle.terminals.proofs.Tagging.{utf8_behind_mark, cut_behind_letters, cut_behind_tag, tag_found}
+use Rattle.std.specs.Char.{is_ascii_alphabetic}
+use Rattle.terminals.proofs.Tagging.{alphabetic_ascii, utf8_behind_mark, cut_behind_passing, cut_behind_tag, tag_found}
 use Rattle.terminals.proofs.tags.langtag.Goals as goal
 
 pub range_from-requires : goal.range_from-requires
 range_from-requires c =
-    λ _. cut_behind_letters c.in_ok-tag.tag.now c.letters_len-len.result
+    λ _. cut_behind_passing is_ascii_alphabetic alphabetic_ascii c.in_ok-tag.tag.now c.letters_len-len.result
     (utf8_behind_mark c.args.text.now c.in_ok-tag.tag.now 64 (omega arith) c.in_ok-tag.ensures.found c.utf8.text)
     c.letters_len-len.ensures.is c.letters_len-len.ensures.within
 
