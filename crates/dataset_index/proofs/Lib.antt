@@ -1,9 +1,10 @@
+pub mod Defaults
 pub mod Numbers
 pub mod Parts
 pub mod NodeStarts
 pub mod Noting
 pub mod Searching
-pub mod Subjects
+pub mod Keys
 pub mod Placing
 pub mod SubjectOrder
 pub mod HeldNodes

@@ -1,4 +1,5 @@
 pub mod QuadOrder
+pub mod ByKey
 pub mod BySubject
 pub mod Mentions
 pub mod Segments
