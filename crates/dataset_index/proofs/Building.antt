@@ -16,12 +16,15 @@ use Rattle.rdf_terms.specs.declared.term.Label.{Label}
 use Rattle.rdf_terms.proofs.Membership.{In-at, place_in, In-map, from_In-map}
 use Rattle.rdf_terms.proofs.Permutations.{Permutes-from_IsPermutation, Permutes-map, AreDistinct-Permutes, In-Permutes}
 use Rattle.rdf_terms.proofs.Adding.{statement_injective}
+use Rattle.rdf_terms.proofs.Ranks.{In-filter}
 use Rattle.dataset_index.specs.declared.mention.Mention.{Mention}
-use Rattle.dataset_index.specs.Mentions.{noted_places, places_of, NotesPlaces, places_before}
+use Rattle.dataset_index.specs.ByKey.{of_key}
+use Rattle.dataset_index.specs.Mentions.{mentioned_by, noted_places, places_of, NotesPlaces, places_before}
 use Rattle.dataset_index.specs.NodeTerms.{NumbersNodes}
 use Rattle.dataset_index.specs.HeldNodes.{AreNodesBelow}
 use Rattle.dataset_index.specs.Indexed.{IsIndexed, with_quads}
 use Rattle.dataset_index.specs.QuadOrder.{Ascend}
+use Rattle.dataset_index.proofs.Keys.{In-of_key}
 use Rattle.dataset_index.proofs.Numbers.{length-numbers_below, slice_get-map_numbers_below, map-numbers_below}
 
 pub AreDistinct-from_map : {A B : Type 0} (f : A → B) (xs : List A) → AreDistinct (map f xs) → AreDistinct xs
@@ -120,6 +123,19 @@ node_below d is n k at = In_below d is n (In-at d.terms k (Blank n) at)
 
 pub AreNodesBelow-terms : (d : Document) → IsDocument d → AreNodesBelow d.terms
 AreNodesBelow-terms d is n there = let l = In_below d is n there in let b = is.draft.labels_bound in omega arith
+
+-- only nodes of the document are noted
+mentioned_at : (d : Document) → IsDocument d → (n k : ℕ) (o : Option Statement) → slice_get (statements d) k ≡ o → mentioned_by n o ≡ true → n < length d.labels
+mentioned_at d is n k None at h = absurd (true≢false (sym h))
+mentioned_at d is n k (Some st) at h =
+    mentioned_below (length d.labels) n st (All-In (IsValidStatement (length d.labels)) (statements d) st is.draft.valid (In-at (statements d) k st at)) h
+
+pub noted_below : (d : Document) (notes : List Mention) (end : ℕ) → IsDocument d → NotesPlaces (statements d) notes end → All (λ m. m.node < length d.labels) notes
+noted_below d notes end is noted i e l =
+    let m = get_or notes i e in
+    let own = In-of_key (λ m. m.node) m notes (In-at notes i m (slice_get-get_or notes i e l)) in
+    let there = subst (In m.place) (noted m.node) (In-map (λ m. m.place) (of_key (λ m. m.node) m.node notes) m own) in
+    mentioned_at d is m.node m.place (slice_get (statements d) m.place) refl (In-filter (λ k. mentioned_by m.node (slice_get (statements d) k)) (numbers_below end) m.place there).1
 
 -- the number of the term of a node that a quad mentions
 abbrev Numbered : List Term → ℕ → Type 0

@@ -1,10 +1,9 @@
 pub mod Defaults
 pub mod Numbers
-pub mod Parts
-pub mod NodeStarts
 pub mod Noting
 pub mod Searching
 pub mod Keys
+pub mod NodeStarts
 pub mod Placing
 pub mod SubjectOrder
 pub mod HeldNodes

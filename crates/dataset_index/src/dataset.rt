@@ -62,7 +62,7 @@ impl Dataset {
         requires ascend { Ascend quads.items }
         ensures { IfOk result (λ d. d ≡ with_quads parsed quads.items) }
     {
-        let index = NodeIndex::build(alloc, 0, Vec::new(alloc))?;
+        let index = NodeIndex::build(alloc, 0, &[])?;
         Ok(Dataset {
             parsed,
             quads,
@@ -82,7 +82,7 @@ impl Dataset {
         let node_terms = node_terms(alloc, &term_nodes, nodes)?;
         let notes = note_all(alloc, &term_nodes, quads.as_slice())?;
         drop(term_nodes);
-        let index = NodeIndex::build(alloc, nodes as u32, notes)?;
+        let index = NodeIndex::build(alloc, nodes as u32, notes.as_slice())?;
         Ok(Dataset {
             parsed,
             quads,

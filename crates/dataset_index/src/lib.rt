@@ -9,4 +9,5 @@ mod mention;
 mod mentions;
 mod node_index;
 mod node_terms;
+mod sums;
 mod term_nodes;

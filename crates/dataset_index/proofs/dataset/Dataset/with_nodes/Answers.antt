@@ -6,7 +6,7 @@ use Rattle.dataset_index.specs.Mentions.{noted_places, NotesPlaces}
 use Rattle.dataset_index.specs.NodeTerms.{NumbersNodes}
 use Rattle.dataset_index.specs.HeldNodes.{AreNodesBelow}
 use Rattle.dataset_index.specs.Indexed.{with_quads}
-use Rattle.dataset_index.proofs.Building.{indexed, node_below, AreNodesBelow-terms}
+use Rattle.dataset_index.proofs.Building.{indexed, node_below, noted_below, AreNodesBelow-terms}
 use Rattle.dataset_index.proofs.dataset.Dataset.with_nodes.Goals as goal
 
 pub of-requires : goal.of-requires
@@ -25,6 +25,16 @@ note_all-requires-clause-in_range c =
 pub note_all-requires-clause-bound : goal.note_all-requires-clause-bound
 note_all-requires-clause-bound c = subst (λ qs. length qs ≤ 1000000000) (sym c.as_slice.ensures.value) c.requires.document.draft.quads_bound
 
+pub build-requires-clause-nodes : goal.build-requires-clause-nodes
+build-requires-clause-nodes c =
+    let quads = c.args.quads.items in
+    let notes = c.in_ok-notes.notes.items in
+    subst (All (λ m. m.node < length c.labels-nodes.result.now)) (sym c.as_slice-2.ensures.value)
+    (subst (λ ls. All (λ m. m.node < length ls) notes) (sym c.labels-nodes.ensures.labels)
+    (noted_below (with_quads c.args.parsed quads) notes (length quads) c.requires.document
+    (subst (λ ts. NotesPlaces (map (statement ts) quads) notes (length quads)) (c.in_ok-term_nodes.ensures ∙ c.terms.ensures)
+    (subst (λ qs. NotesPlaces (map (statement c.in_ok-term_nodes.term_nodes) qs) notes (length qs)) c.as_slice.ensures.value c.in_ok-notes.ensures.places))))
+
 pub invariant_of-result : goal.invariant_of-result
 invariant_of-result c =
     let quads = c.args.quads.items in
@@ -38,4 +48,4 @@ invariant_of-result c =
     (subst (λ ts. NumbersNodes ts numbers (length ts)) (c.in_ok-term_nodes.ensures ∙ c.terms.ensures) c.in_ok-node_terms.ensures.numbers)
     (subst (λ ts. NotesPlaces (map (statement ts) quads) notes (length quads)) (c.in_ok-term_nodes.ensures ∙ c.terms.ensures)
     (subst (λ qs. NotesPlaces (map (statement c.in_ok-term_nodes.term_nodes) qs) notes (length qs)) c.as_slice.ensures.value c.in_ok-notes.ensures.places))
-    (c.in_ok-index.ensures ∙ ap (λ ls. map (noted_places notes) (numbers_below (length ls))) c.labels-nodes.ensures.labels)
+    (c.in_ok-index.ensures ∙ ap (λ ns. map (noted_places ns) (numbers_below (length c.labels-nodes.result.now))) c.as_slice-2.ensures.value ∙ ap (λ ls. map (noted_places notes) (numbers_below (length ls))) c.labels-nodes.ensures.labels)
