@@ -17,6 +17,7 @@ mod draft;
 mod ends;
 mod finish;
 mod inline_text;
+mod known_text;
 mod memory;
 mod node_number;
 mod numbering;

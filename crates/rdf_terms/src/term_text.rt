@@ -3,9 +3,13 @@ ghost use Rattle.std.specs.Str.{bytes_eq};
 ghost use Rattle.std.specs.Hash as fed;
 ghost use Rattle.std.specs.Cmp.Rules.{comparing, hashing};
 ghost use Rattle.std.proofs.Common.{rules};
+ghost use Rattle.rdf_terms.specs.StoredText.{stored_bytes};
+ghost use Rattle.rdf_terms.specs.declared.inline_text.InlineText.{InlineText};
+ghost use Rattle.rdf_terms.specs.declared.term_text.Stored.TheVariants.{Inline};
 
 use crate::NoMemory;
 use crate::inline_text::InlineText;
+use crate::known_text::known_text;
 use std::alloc::Global;
 use std::hash::{Hash, Hasher};
 use std::marker::Model;
@@ -13,11 +17,37 @@ use std::marker::Model;
 #[derive(Debug, Drop)]
 enum Stored {
     Inline(InlineText),
+    Known(&'static str),
     Apart(String),
 }
 
-/// The text of an IRI, a lexical form, a language tag or a label, in UTF-8. A short one takes no
-/// memory of its own.
+impl Stored {
+    // Of a text that is too long to lie in the value.
+    fn of_long(alloc: Global, text: &str) -> Result<Self, NoMemory>
+        ensures { IfOk result (λ s. stored_bytes s ≡ text.now) }
+    {
+        match known_text(text) {
+            Some(known) => Ok(Stored::Known(known)),
+            None => Ok(Stored::Apart(String::from_str(alloc, text)?)),
+        }
+    }
+
+    // The text of one outside the value: a place and a length, whichever kind it is of, so that the
+    // kinds need not be told apart.
+    fn outer_text(&self) -> &str
+        requires { (text : InlineText) → ¬ (self.now ≡ Inline text) }
+        ensures { result.now ≡ stored_bytes self.now }
+    {
+        match self {
+            Stored::Inline(_) => unreachable!(),
+            Stored::Known(text) => text,
+            Stored::Apart(text) => text.as_str(),
+        }
+    }
+}
+
+/// The text of an IRI, a lexical form, a language tag or a label, in UTF-8. A short one, and the
+/// IRI of a common datatype, take no memory of their own.
 #[derive(Debug, Drop)]
 pub struct TermText {
     stored: Stored,
@@ -36,12 +66,13 @@ impl Model for TermText {
 }
 
 impl TermText {
+    #[inline]
     pub fn copy(alloc: Global, text: &str) -> Result<Self, NoMemory>
         ensures { IfOk result (λ t. t ≡ text.now) }
     {
         let stored = match InlineText::copy(text) {
             Some(inline) => Stored::Inline(inline),
-            None => Stored::Apart(String::from_str(alloc, text)?),
+            None => Stored::of_long(alloc, text)?,
         };
         Ok(TermText { stored })
     }
@@ -52,7 +83,7 @@ impl TermText {
     {
         match &self.stored {
             Stored::Inline(text) => text.as_str(),
-            Stored::Apart(text) => text.as_str(),
+            outer => outer.outer_text(),
         }
     }
 }
