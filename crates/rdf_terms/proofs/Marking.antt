@@ -73,3 +73,7 @@ Marks-mark marks nodes terms k (Literal l) new at low e h = rw e (Marks-other ma
 
 pub Marks-all : (marks : List Bool) (nodes : ℕ) (terms : List Term) (k : ℕ) → length terms ≤ k → Marks marks nodes (take k terms) → (n : ℕ) → (mark_in marks n ≡ true) ↔ In (Blank n) terms
 Marks-all marks nodes terms k l h n = let e = take_all k terms l in (λ m. subst (In (Blank n)) e (h.marked n m), λ i. h.all_marked n (subst (In (Blank n)) (sym e) i))
+
+-- with no mark, none is set, and no node is there
+pub mark_in-nil : (terms : List Term) → ((n : ℕ) → ¬ In (Blank n) terms) → (n : ℕ) → (mark_in [] n ≡ true) ↔ In (Blank n) terms
+mark_in-nil terms none n = (λ m. absurd (true≢false (sym m)), λ i. absurd (none n i))

@@ -23,6 +23,9 @@ pub fn used_nodes(alloc: Global, terms: &TermTable, nodes: usize) -> Result<Vec<
     ensures len { IfOk result (λ v. length v.items ≡ nodes) }
     ensures used { IfOk result (λ v. (n : ℕ) → (mark_in v.items n ≡ true) ↔ In (Blank n) terms.now) }
 {
+    if nodes == 0 {
+        return Ok(Vec::new(alloc));
+    }
     let mut used = vec![in alloc; false; nodes]?;
     for term in terms.as_slice() {
         mark(&mut used, term);
