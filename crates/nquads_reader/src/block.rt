@@ -7,8 +7,8 @@ use crate::quad::StatedQuad;
 use std::alloc::Global;
 
 // The look-ups of the terms of so many quads are made side by side, so that the memory that one
-// waits for comes while the others go on. The quads and their terms still fit the nearest cache.
-const QUADS_AT_ONCE: usize = 32;
+// waits for comes while the others go on. What is held of these quads still fits the near caches.
+const QUADS_AT_ONCE: usize = 64;
 
 // How many lines were read, and what stands behind them.
 #[derive(Drop)]
