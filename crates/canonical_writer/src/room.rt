@@ -7,16 +7,16 @@ use rdf_terms::{Literal, LiteralKind, NoMemory, Quad, Term, TermTable};
 // How many runs room is made for at once.
 const RUNS_AT_ONCE: usize = 16;
 
-// What is counted for all of a line but its subject and the texts of its object and graph name. What
-// is written may be longer, or shorter: the text grows by itself where it has to.
+// What is counted for all of a line but its subject, its predicate and the text of its object. What is
+// written may be longer, or shorter: the text grows by itself where it has to.
 const REST_LEN: usize = 64;
 
 /// At each place that is a multiple of `RUNS_AT_ONCE`, makes room in the text for the lines of so
 /// many runs from there on.
 ///
-/// To add up how long these lines will be, their keys, objects and graph names are looked at. Those of
-/// two quads lie far apart in memory, and seldom in the processor's cache. Here no look waits for the
-/// one before it, so that many are fetched at a time, and when the lines are written they are at hand.
+/// To add up how long these lines will be, the keys, quads and objects are looked at. Those of two runs
+/// lie far apart in memory, and seldom in the processor's cache. Here no look waits for the one before
+/// it, so that many are fetched at a time, and when the lines are written they are at hand.
 pub(crate) fn make_room(
     text: &mut Vec<u8>,
     terms: &TermTable,
@@ -34,12 +34,18 @@ pub(crate) fn make_room(
 
 /// About how long the lines of the first runs will be.
 fn runs_len(terms: &TermTable, runs: &[Run<'_>]) -> usize {
+    let runs = &runs[..runs.len().min(RUNS_AT_ONCE)];
+    starts_len(terms, runs).wrapping_add(objects_len(terms, runs))
+}
+
+/// How long the lines are but for their objects. By these looks the quads are fetched.
+fn starts_len(terms: &TermTable, runs: &[Run<'_>]) -> usize {
     let mut len = 0usize;
-    for run in runs.iter().take(RUNS_AT_ONCE) {
-        let others_len = key_len(run.key).wrapping_add(REST_LEN);
-        len = len
-            .wrapping_add(run.quads.len().wrapping_mul(others_len))
-            .wrapping_add(texts_len(terms, run.quads));
+    for run in runs {
+        let start_len = key_len(run.key)
+            .wrapping_add(predicate_len(terms, run.quads))
+            .wrapping_add(REST_LEN);
+        len = len.wrapping_add(run.quads.len().wrapping_mul(start_len));
     }
     len
 }
@@ -53,23 +59,31 @@ fn key_len(key: &[u8]) -> usize {
     }
 }
 
-/// How long the texts of the objects and graph names are.
-fn texts_len(terms: &TermTable, quads: &[Quad]) -> usize {
+/// How long the text of the first predicate is.
+#[inline]
+fn predicate_len(terms: &TermTable, quads: &[Quad]) -> usize {
+    match quads.first() {
+        Some(quad) => text_len(terms, quad.p),
+        None => 0,
+    }
+}
+
+fn objects_len(terms: &TermTable, runs: &[Run<'_>]) -> usize {
     let mut len = 0usize;
-    for quad in quads {
-        len = len
-            .wrapping_add(text_len(terms, quad.o))
-            .wrapping_add(graph_name_len(terms, quad.g));
+    for run in runs {
+        len = len.wrapping_add(texts_len(terms, run.quads));
     }
     len
 }
 
+/// How long the texts of the objects are.
 #[inline]
-fn graph_name_len(terms: &TermTable, number: Option<u32>) -> usize {
-    match number {
-        Some(graph_name) => text_len(terms, graph_name),
-        None => 0,
+fn texts_len(terms: &TermTable, quads: &[Quad]) -> usize {
+    let mut len = 0usize;
+    for quad in quads {
+        len = len.wrapping_add(text_len(terms, quad.o));
     }
+    len
 }
 
 /// How long the text of the term with this number is. A node has none.
