@@ -1,57 +1,43 @@
 -- Each tie that the counted run of a call logs is tied, and its exchange may be checked.
 use Rattle.std.proofs.Common.{Bool, List, None, Option, Some, [], ap, append_assoc, arith, cond, false, inl, inr, refl, subst, suc, sym, true, true≢false, zero, ℕ, ◌++◌, ◌<◌, ◌∙◌, ◌∷◌, ◌≡◌, ◌⊎◌}
-use Rattle.rdf_terms.proofs.Membership.{In-append, In-append_right, from_In-map}
+use Rattle.rdf_terms.proofs.Membership.{In-append, from_In-map}
 use Rattle.rdf_terms.proofs.Permutations.{In-Permutes, Permutes-sym}
 use Rattle.rdf_terms.specs.Dataset.{Dataset}
 use Rattle.rdf_terms.specs.Lists.{In, Permutes, Text, is_before}
 use Rattle.canon_model.specs.Arrangements.{arrangements}
 use Rattle.canon_model.specs.CountedRun.{Chosen, Counted, Outcome, Tie, choose, chosen_text, counted_call, counted_call_within, counted_groups, counted_permutation, counted_permutations, counted_recursion, is_skipped, issuer_or, path_or_none, skips, ties_of_chosen}
-use Rattle.canon_model.specs.Coverage.{BeginsWith, Covers, Reached, begin, onward}
 use Rattle.canon_model.specs.Groups.{groups}
 use Rattle.canon_model.specs.Issuer.{IsValidCall, is_issued}
 use Rattle.canon_model.specs.Laws.{TiesOfCallAreTied}
 use Rattle.canon_model.specs.Outcome.{DataToHash, HashNDegreeQuads}
-use Rattle.canon_model.specs.Profile.{Profile}
+use Rattle.canon_model.specs.Hashing.{Hashing}
 use Rattle.canon_model.specs.Ties.{AreTiedPaths, IsTie, MayBeBegun, MayBeExchanged}
 use Rattle.canon_model.specs.Walk.{PermutationPath, issuer_copy_after, path_of_identifiers, path_of_result, recursion_list}
 use Rattle.canon_model.proofs.Arrangements.{In-arrangements, from_In-arrangements}
 use Rattle.canon_model.proofs.CanonicalLists.{AreCanonical}
 use Rattle.canon_model.proofs.CountedGrows.{counted_call-grows, counted_permutations-grows}
-use Rattle.canon_model.proofs.CountedPaths.{Either, Kept, counted_permutations-kept, full_issuer, full_path, issuer_of, none_kept, path_of}
-use Rattle.canon_model.proofs.Coverage.{from_In-recursion_list, hash_n_degree_quads-covers, issuer_copy_after-issued, permutation_path-coverage}
+use Rattle.canon_model.proofs.CountedPaths.{Either, Kept, counted_permutations-kept, full_path, issuer_of, none_kept, path_of}
+use Rattle.canon_model.proofs.Coverage.{from_In-recursion_list, hash_n_degree_quads-covers, issuer_copy_after-issued}
 use Rattle.canon_model.proofs.Depth.{n_degree_within-depth}
-use Rattle.canon_model.proofs.Issuers.{AreOnce, Grows, In-from_is_issued, are_distinct_from_once, are_once_from_distinct, begins_refl, grows_trans, is_issued-begins, is_issued-from_In, issuer_copy_after-grows, not_In-from_is_issued}
+use Rattle.canon_model.proofs.Issuers.{In-from_is_issued, are_distinct_from_once, are_once_from_distinct, begins_refl, is_issued-begins, is_issued-from_In, not_In-from_is_issued}
 use Rattle.canon_model.proofs.OutcomesGrow.{data_to_hash-push}
-use Rattle.canon_model.proofs.Totality.{Fits, MentionsNodes, fits_after_path, fits_counted_call, fits_counted_group, fits_recursion, fits_valid_call, group-counted, mentions_nodes, n_degree_within-counted, nodes_of_groups, permutation_path-counted}
+use Rattle.canon_model.proofs.TiedLists.{permutations-exchanged}
+use Rattle.canon_model.proofs.Totality.{Fits, MentionsNodes, fits_counted_call, fits_counted_group, fits_recursion, fits_valid_call, group-counted, mentions_nodes, n_degree_within-counted, nodes_of_groups, permutation_path-counted}
 
-abbrev pub AreTies : Profile → Dataset → List Tie → Type 0
+abbrev pub AreTies : Hashing → Dataset → List Tie → Type 0
 AreTies ρ D ts = (t : Tie) → In t ts → IsTie ρ D t
 
-pub are_ties-none : (ρ : Profile) (D : Dataset) → AreTies ρ D []
+pub are_ties-none : (ρ : Hashing) (D : Dataset) → AreTies ρ D []
 are_ties-none ρ D t h = absurd h
 
-pub are_ties-append : (ρ : Profile) (D : Dataset) (ts us : List Tie) → AreTies ρ D ts → AreTies ρ D us → AreTies ρ D (ts ++ us)
+pub are_ties-append : (ρ : Hashing) (D : Dataset) (ts us : List Tie) → AreTies ρ D ts → AreTies ρ D us → AreTies ρ D (ts ++ us)
 are_ties-append ρ D ts us a b t h = elim (In-append ts us t h) [ inl g ↦ a t g | inr g ↦ b t g ]
 
-are_ties_cond : (ρ : Profile) (D : Dataset) (s : Bool) (t u : Counted (Option Outcome)) → AreTies ρ D t.trace.ties → AreTies ρ D u.trace.ties → AreTies ρ D (cond s t u).trace.ties
+are_ties_cond : (ρ : Hashing) (D : Dataset) (s : Bool) (t u : Counted (Option Outcome)) → AreTies ρ D t.trace.ties → AreTies ρ D u.trace.ties → AreTies ρ D (cond s t u).trace.ties
 are_ties_cond ρ D true t u a b = a
 are_ties_cond ρ D false t u a b = b
 
--- ---- the tails of two lists with the same nodes
-
-are_once-apart : (xs ys : List ℕ) → AreOnce (xs ++ ys) → (x : ℕ) → In x xs → ¬ (In x ys)
-are_once-apart [] ys d x h g = h
-are_once-apart (y ∷ xs) ys d x (inl e) g = not_In-from_is_issued y (xs ++ ys) d.0 (In-append_right xs ys y (subst (λ w. In w ys) e g))
-are_once-apart (y ∷ xs) ys d x (inr h) g = are_once-apart xs ys d.1 x h g
-
-in_other_tail : (i l m : List ℕ) (p : BeginsWith i l) (q : BeginsWith i m) → AreOnce l → ((x : ℕ) → In x l → In x m) → (x : ℕ) → In x p.tail → In x q.tail
-in_other_tail i l m p q d sub x h = by (In-append i q.tail x (subst (In x) q.is (sub x (subst (In x) (sym p.is) (In-append_right i p.tail x h)))))
-  where
-    by : In x i ⊎ In x q.tail → In x q.tail
-    by (inl a) = absurd (are_once-apart i p.tail (subst AreOnce p.is d) x a h)
-    by (inr a) = a
-
-module _ (ρ : Profile) (D : Dataset) (c : List ℕ) (nodes : MentionsNodes D) (canonical : AreCanonical D c) where
+module _ (ρ : Hashing) (D : Dataset) (c : List ℕ) (nodes : MentionsNodes D) (canonical : AreCanonical D c) where
   pub valid_call : (k n : ℕ) (i : List ℕ) → is_issued n i ≡ true → Fits ρ D c nodes k i → IsValidCall D c n i
   valid_call k n i hn f = record {
     canonical_nodes = λ x h. canonical.below x (is_issued-from_In x c h);
@@ -62,7 +48,7 @@ module _ (ρ : Profile) (D : Dataset) (c : List ℕ) (nodes : MentionsNodes D) (
     listed = In-from_is_issued n i hn;
   }
 
-  outcome-counted : (k m : ℕ) (i : List ℕ) → is_issued m i ≡ true → Fits ρ D c nodes k i → HashNDegreeQuads ρ D c m i (counted_call_within k ρ D c m i).value.text (counted_call_within k ρ D c m i).value.issuer
+  pub outcome-counted : (k m : ℕ) (i : List ℕ) → is_issued m i ≡ true → Fits ρ D c nodes k i → HashNDegreeQuads ρ D c m i (counted_call_within k ρ D c m i).value.text (counted_call_within k ρ D c m i).value.issuer
   outcome-counted k m i hm f = record {
     valid = valid_call k m i hm f;
     outcome = n_degree_within-depth ρ D c nodes k (suc D.nodes) m i _ _ hm (record { distinct = f.distinct; below = f.below; apart = f.apart; room = omega arith }) (n_degree_within-counted ρ D c nodes k m i hm f);
@@ -94,14 +80,6 @@ module _ (ρ : Profile) (D : Dataset) (c : List ℕ) (nodes : MentionsNodes D) (
         let t = counted_permutation (counted_call_within k ρ D c) (chosen_text b) c i p in
         are_ties-append ρ D t.trace.ties _ (permutation-ties (chosen_text b) i p f (low p (inl refl))) (permutations-ties (choose b t.value) i ps f (λ q h. low q (inr h)))
 
-    -- the issuer of a permutation that is tried to its end
-    full_issuer-grows : (ms i : List ℕ) → AreOnce i → Grows i (full_issuer (counted_call_within k ρ D c) c i ms)
-    full_issuer-grows [] i d = (begins_refl i, d)
-    full_issuer-grows (m ∷ ms) i d = let g = counted_call-grows D c ρ k m i d in grows_trans i (counted_call_within k ρ D c m i).value.issuer _ g (full_issuer-grows ms (counted_call_within k ρ D c m i).value.issuer g.1)
-
-    issuer_of-grows : (i p : List ℕ) → AreOnce i → Grows i (issuer_of (counted_call_within k ρ D c) c i p)
-    issuer_of-grows i p d = let g = issuer_copy_after-grows c i p d in grows_trans i (issuer_copy_after c i p) _ g (full_issuer-grows (recursion_list c i p) (issuer_copy_after c i p) g.1)
-
     -- ---- one group, begun with the issuer i
 
     module _ (n : ℕ) (passed : List ℕ) (h : Text) (i : List ℕ) (begun : MayBeBegun ρ D c n passed h i) (f : Fits ρ D c nodes (suc k) i) (some : ¬ (i ≡ [])) where
@@ -124,41 +102,8 @@ module _ (ρ : Profile) (D : Dataset) (c : List ℕ) (nodes : MentionsNodes D) (
         path_is = refl;
       }
 
-      covers : (p : List ℕ) → Permutes bag p → Covers D c i (λ y. In y p) (issuer p)
-      covers p q = permutation_path-coverage D c (HashNDegreeQuads ρ D c) (hash_n_degree_quads-covers D c ρ) i p (path p) (issuer p) (walks p q)
-
-      fits_issuer : (p : List ℕ) → Permutes bag p → Fits ρ D c nodes (suc k) (issuer p)
-      fits_issuer p q = fits_after_path ρ D c nodes (suc k) i p (issuer p) (bag_below p q) (issuer_of-grows i p f.distinct) (covers p q) f
-
-      reach : (p q : List ℕ) → ((y : ℕ) → In y p → In y q) → {x : ℕ} → Reached D c i (λ y. In y p) x → Reached D c i (λ y. In y q) x
-      reach p q sub (begin {x = x} a u v) = begin (sub x a) u v
-      reach p q sub (onward a t u v) = onward (reach p q sub a) t u v
-
-      -- two permutations of one list are covered alike
-      covered_alike : (p q : List ℕ) → Permutes bag p → Permutes bag q → (x : ℕ) → In x (issuer p) → In x (issuer q)
-      covered_alike p q a b x h = ((covers q b).nodes x).1 (over (((covers p a).nodes x).0 h))
-        where
-          over : In x i ⊎ Reached D c i (λ y. In y p) x → In x i ⊎ Reached D c i (λ y. In y q) x
-          over (inl u) = inl u
-          over (inr u) = inr (reach p q (λ y v. In-Permutes y b (In-Permutes y (Permutes-sym a) v)) u)
-
-      may_be_exchanged : (p q : List ℕ) → Permutes bag p → Permutes bag q → MayBeExchanged D c i (issuer p) (issuer q)
-      may_be_exchanged p q a b = record {
-        left_nodes = λ x h. (fits_issuer p a).below x (is_issued-from_In x (issuer p) h);
-        right_nodes = λ x h. (fits_issuer q b).below x (is_issued-from_In x (issuer q) h);
-        left_once = are_distinct_from_once (issuer p) (fits_issuer p a).distinct;
-        right_once = are_distinct_from_once (issuer q) (fits_issuer q b).distinct;
-        left_apart = λ x h. not_In-from_is_issued x c ((fits_issuer p a).apart x (is_issued-from_In x (issuer p) h));
-        right_apart = λ x h. not_In-from_is_issued x c ((fits_issuer q b).apart x (is_issued-from_In x (issuer q) h));
-        left_tail = (covers p a).begins.tail;
-        right_tail = (covers q b).begins.tail;
-        left_is = (covers p a).begins.is;
-        right_is = (covers q b).begins.is;
-        tails = inl (λ x. (
-          in_other_tail i (issuer p) (issuer q) (covers p a).begins (covers q b).begins (fits_issuer p a).distinct (covered_alike p q a b) x,
-          in_other_tail i (issuer q) (issuer p) (covers q b).begins (covers p a).begins (fits_issuer q b).distinct (covered_alike q p b a) x,
-        ));
-      }
+      exchanged : (p q : List ℕ) → Permutes bag p → Permutes bag q → MayBeExchanged D c i (issuer p) (issuer q)
+      exchanged = permutations-exchanged ρ D c nodes (suc k) bag i (nodes_of_groups ρ D c nodes passed n h) f (record { path = path; issuer = issuer; walks = walks })
 
       tied_paths : (p q : List ℕ) → Permutes bag p → Permutes bag q → ((r : List ℕ) → Permutes bag r → is_before (path r) (path p) ≡ false) → path p ≡ path q → AreTiedPaths ρ D c i (issuer p) (issuer q)
       tied_paths p q a b least same = record {
@@ -188,7 +133,7 @@ module _ (ρ : Profile) (D : Dataset) (c : List ℕ) (nodes : MentionsNodes D) (
           let rp = arranged right.0 right.1 in
           let tie : IsTie ρ D (record { canonical = c; passed = i; left = issuer left.0; right = issuer right.0 }) = record {
             tied = inr (tied_paths left.0 right.0 lp rp (λ p q. subst (λ w. is_before (path p) w ≡ false) (sym left.2) (kept.below p (inr (In-arrangements bag p q)))) (left.2 ∙ sym right.2));
-            may_be_exchanged = may_be_exchanged left.0 right.0 lp rp;
+            may_be_exchanged = exchanged left.0 right.0 lp rp;
           } in
           subst (IsTie ρ D) (sym (r.2 ∙ (λ x. record { canonical = c; passed = i; left = sym left.3 x; right = sym right.3 x }))) tie
         where

@@ -8,18 +8,18 @@ use Rattle.canon_model.specs.Allowed.{HashPathResult, IsHashPathList, IssuesForH
 use Rattle.canon_model.specs.CountedRun.{counted_hashes, counted_results, counted_run, result_of}
 use Rattle.canon_model.specs.Laws.{CountedRunIsAllowed, TotalityOfDatasets}
 use Rattle.canon_model.specs.Outcome.{HashNDegreeQuads}
-use Rattle.canon_model.specs.Profile.{Profile}
+use Rattle.canon_model.specs.Hashing.{Hashing}
 use Rattle.canon_model.proofs.CanonicalLists.{AreCanonical, results-canonical, unique_hashes-canonical, valid_start}
 use Rattle.canon_model.proofs.Maps.{map-map, map_identity}
 use Rattle.canon_model.proofs.SortedResults.{sort_results-ascending, sort_results-permutes}
 use Rattle.canon_model.proofs.StartNodes.{unissued_node}
 use Rattle.canon_model.proofs.Totality.{counted_call_is_outcome, mentions_nodes}
 
-pub AreDistinct-results : (ρ : Profile) (D : Dataset) (c xs : List ℕ) → AreDistinct xs → AreDistinct (map (result_of ρ D c) xs)
+pub AreDistinct-results : (ρ : Hashing) (D : Dataset) (c xs : List ℕ) → AreDistinct xs → AreDistinct (map (result_of ρ D c) xs)
 AreDistinct-results ρ D c [] o = tt
 AreDistinct-results ρ D c (x ∷ xs) o = ((λ h. let r = from_In-map (result_of ρ D c) xs (result_of ρ D c x) h in o.0 (subst (λ w. In w xs) (sym (ap (λ (v : HashPathResult). v.start) r.2)) r.1)), AreDistinct-results ρ D c xs o.1)
 
-module _ (ρ : Profile) (D : Dataset) (valid : IsValid D) where
+module _ (ρ : Hashing) (D : Dataset) (valid : IsValid D) where
   pub outcome_of_start : (c : List ℕ) → AreCanonical D c → (h : Text) (x : ℕ) → In x (unissued_nodes ρ D c h) → HashNDegreeQuads ρ D c x (x ∷ []) (result_of ρ D c x).hash (result_of ρ D c x).issuer
   outcome_of_start c k h x i = let s = unissued_node ρ D c h x i in counted_call_is_outcome ρ D c x (x ∷ []) valid (valid_start D c k x s.0 s.1)
 
@@ -35,7 +35,7 @@ module _ (ρ : Profile) (D : Dataset) (valid : IsValid D) where
   pub counted_results-canonical : (c : List ℕ) → AreCanonical D c → (h : Text) → AreCanonical D (issue_results c (counted_results ρ D c h))
   counted_results-canonical c k h = results-canonical ρ D (mentions_nodes D valid) c h (counted_results ρ D c h) (counted_results-list c k h) k
 
-  counted_hashes-issue : (hs : List Text) (c : List ℕ) → AreCanonical D c → IssuesForHashes ρ D hs c (counted_hashes ρ D hs c).value
+  pub counted_hashes-issue : (hs : List Text) (c : List ℕ) → AreCanonical D c → IssuesForHashes ρ D hs c (counted_hashes ρ D hs c).value
   counted_hashes-issue [] c k = refl
   counted_hashes-issue (h ∷ hs) c k = record {
     results = counted_results ρ D c h;

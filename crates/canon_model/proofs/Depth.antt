@@ -10,7 +10,7 @@ use Rattle.canon_model.specs.Groups.{groups}
 use Rattle.canon_model.specs.Issuer.{is_issued}
 use Rattle.canon_model.specs.Laws.{DepthDoesNotMatter}
 use Rattle.canon_model.specs.Outcome.{ChosenPath, DataToHash, NDegreeWithin}
-use Rattle.canon_model.specs.Profile.{Profile}
+use Rattle.canon_model.specs.Hashing.{Hashing}
 use Rattle.canon_model.specs.Walk.{CallRelation, PermutationPath, RecursionResults, issuer_copy_after, path_of_identifiers, path_of_result, recursion_list}
 use Rattle.canon_model.proofs.Arrangements.{from_In-arrangements}
 use Rattle.canon_model.proofs.CountedGrows.{counted_call-grows}
@@ -20,7 +20,7 @@ use Rattle.canon_model.proofs.OutcomesGrow.{AllGrow, chosen_path-grows, n_degree
 use Rattle.canon_model.proofs.Pigeonhole.{are_once-length}
 use Rattle.canon_model.proofs.Totality.{Fits, MentionsNodes, fits_after_call, fits_after_path, fits_counted_call, fits_counted_group, fits_recursion, fits_valid_call, mentions_nodes, n_degree_within-counted, nodes_of_groups}
 
-module _ (ρ : Profile) (D : Dataset) (c : List ℕ) (nodes : MentionsNodes D) where
+module _ (ρ : Hashing) (D : Dataset) (c : List ℕ) (nodes : MentionsNodes D) where
   -- ---- the relation
 
   -- outcomes of R are outcomes of S, at lists with room for calls k deep
@@ -70,7 +70,7 @@ module _ (ρ : Profile) (D : Dataset) (c : List ℕ) (nodes : MentionsNodes D) w
         (chosen_path-grows c R grows bg i π j f.distinct w)
         (subst (Covers D c i (λ y. In y w.chosen)) (sym w.issuer_is) (permutation_path-coverage D c R cover i w.chosen (w.paths.path w.chosen) (w.paths.issuer w.chosen) (w.paths.walks w.chosen w.is_least.permutes))) f
 
-    data_to_hash-more : (b : Text → List ℕ) → ((h : Text) (x : ℕ) → In x (b h) → x < D.nodes) → (hs : List Text) (i : List ℕ) (s : Text) (j : List ℕ) → Fits ρ D c nodes (suc k) i → DataToHash R c b hs i s j → DataToHash S c b hs i s j
+    pub data_to_hash-more : (b : Text → List ℕ) → ((h : Text) (x : ℕ) → In x (b h) → x < D.nodes) → (hs : List Text) (i : List ℕ) (s : Text) (j : List ℕ) → Fits ρ D c nodes (suc k) i → DataToHash R c b hs i s j → DataToHash S c b hs i s j
     data_to_hash-more b low [] i s j f w = w
     data_to_hash-more b low (h ∷ hs) i s j f w = record {
       path = w.path;
@@ -129,7 +129,7 @@ module _ (ρ : Profile) (D : Dataset) (c : List ℕ) (nodes : MentionsNodes D) w
       value = record { text = h ++ path_or_none u.value ++ r.value.text; issuer = r.value.issuer };
     }
 
-    counted_groups-same : (b : Text → List ℕ) → ((h : Text) (x : ℕ) → In x (b h) → x < D.nodes) → (hs : List Text) (i : List ℕ) → Fits ρ D c nodes (suc k) i → counted_groups (counted_call_within k ρ D c) c b hs i ≡ counted_groups call c b hs i
+    pub counted_groups-same : (b : Text → List ℕ) → ((h : Text) (x : ℕ) → In x (b h) → x < D.nodes) → (hs : List Text) (i : List ℕ) → Fits ρ D c nodes (suc k) i → counted_groups (counted_call_within k ρ D c) c b hs i ≡ counted_groups call c b hs i
     counted_groups-same b low [] i f = refl
     counted_groups-same b low (h ∷ hs) i f =
         let t = counted_permutations (counted_call_within k ρ D c) None c i (arrangements (b h)) in

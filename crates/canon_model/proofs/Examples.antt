@@ -10,19 +10,19 @@ use Rattle.rdf_terms.specs.declared.term.Term.TheVariants.{Blank, Iri}
 use Rattle.canon_model.specs.CountedRun.{Tie, counted_call, counted_run}
 use Rattle.canon_model.specs.FirstDegree.{hash_first_degree_quads}
 use Rattle.canon_model.specs.Groups.{blank_node_list, related_entries, related_hashes}
-use Rattle.canon_model.specs.Profile.{Profile}
+use Rattle.canon_model.specs.Hashing.{Hashing}
 use Rattle.canon_model.specs.RelatedHash.{hash_related_blank_node}
 
-abbrev stand_in : Text → Text
+abbrev pub stand_in : Text → Text
 stand_in text = fold (λ number byte. (number * 257 + byte) % 2305843009213693951) 1 text ∷ []
 
-abbrev ρ : Profile
+abbrev pub ρ : Hashing
 ρ = record { hash = stand_in; once = false }
 
-abbrev quad : ℕ → ℕ → Option Term → Statement
+abbrev pub quad : ℕ → ℕ → Option Term → Statement
 quad x y g = record { subject = Blank x; predicate = Iri (codes "http://e/p"); object = Blank y; graph_name = g }
 
-abbrev of : ℕ → List Statement → Dataset
+abbrev pub of : ℕ → List Statement → Dataset
 of nodes quads = record { nodes = nodes; statements = quads }
 
 -- units, and the number of ties
@@ -58,7 +58,7 @@ unfolding hash_first_degree_quads canonical_line numeral digits_from_last relate
 two_rings_of_three = refl
 
 -- four quads, no two alike in two places, over two subjects, two objects and two graph names
-abbrev four_quads : Dataset
+abbrev pub four_quads : Dataset
 four_quads = of 6 (quad 0 2 (Some (Blank 4)) ∷ quad 0 3 (Some (Blank 5)) ∷ quad 1 2 (Some (Blank 5)) ∷ quad 1 3 (Some (Blank 4)) ∷ [])
 
 four : counts four_quads ≡ (150, 7)

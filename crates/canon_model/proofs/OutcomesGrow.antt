@@ -4,7 +4,7 @@ use Rattle.rdf_terms.specs.Dataset.{Dataset}
 use Rattle.rdf_terms.specs.Lists.{Text}
 use Rattle.canon_model.specs.Groups.{groups}
 use Rattle.canon_model.specs.Outcome.{ChosenPath, DataToHash, NDegreeWithin}
-use Rattle.canon_model.specs.Profile.{Profile}
+use Rattle.canon_model.specs.Hashing.{Hashing}
 use Rattle.canon_model.specs.Walk.{CallRelation, PermutationPath, RecursionResults, issuer_copy_after, recursion_list}
 use Rattle.canon_model.proofs.Issuers.{AreOnce, Grows, begins_refl, grows_trans, issuer_copy_after-grows}
 
@@ -25,11 +25,11 @@ module _ (c : List ℕ) where
     pub chosen_path-grows : (nodes i : List ℕ) (π : Text) (j : List ℕ) → AreOnce i → ChosenPath R c nodes i π j → Grows i j
     chosen_path-grows nodes i π j d w = subst (Grows i) (sym w.issuer_is) (permutation_path-grows i w.chosen (w.paths.path w.chosen) (w.paths.issuer w.chosen) d (w.paths.walks w.chosen w.is_least.permutes))
 
-    data_to_hash-grows : (nodes : Text → List ℕ) (hs : List Text) (i : List ℕ) (s : Text) (j : List ℕ) → AreOnce i → DataToHash R c nodes hs i s j → Grows i j
+    pub data_to_hash-grows : (nodes : Text → List ℕ) (hs : List Text) (i : List ℕ) (s : Text) (j : List ℕ) → AreOnce i → DataToHash R c nodes hs i s j → Grows i j
     data_to_hash-grows nodes [] i s j d w = subst (Grows i) (sym w.1) (begins_refl i, d)
     data_to_hash-grows nodes (h ∷ hs) i s j d w = let g = chosen_path-grows (nodes h) i w.path w.issuer d w.chosen_path in grows_trans i w.issuer j g (data_to_hash-grows nodes hs w.issuer w.rest j g.1 w.following)
 
-  pub n_degree_within-grows : (ρ : Profile) (D : Dataset) (k : ℕ) → AllGrow (NDegreeWithin k ρ D c)
+  pub n_degree_within-grows : (ρ : Hashing) (D : Dataset) (k : ℕ) → AllGrow (NDegreeWithin k ρ D c)
   n_degree_within-grows ρ D zero m i h j d w = absurd w
   n_degree_within-grows ρ D (suc k) m i h j d w = data_to_hash-grows (NDegreeWithin k ρ D c) (n_degree_within-grows ρ D k) (groups ρ D c i m).nodes (groups ρ D c i m).hashes i w.text j d w.data_to_hash
 

@@ -1,5 +1,5 @@
 -- Each tie that the counted run of a dataset logs is tied, and its exchange may be checked.
-use Rattle.std.proofs.Common.{Bool, List, [], ap, cond, false, inl, inr, map, refl, subst, sym, true, true≢false, ℕ, ◌++◌, ◌↔◌, ◌∙◌, ◌∷◌, ◌≡◌, ◌⊎◌}
+use Rattle.std.proofs.Common.{Bool, List, [], ap, cond, false, inl, inr, map, refl, subst, sym, true, ℕ, ◌++◌, ◌∙◌, ◌∷◌, ◌≡◌}
 use Rattle.std.specs.Cmp.Lexicographic.{bytes_decides}
 use Rattle.std.specs.Str.{bytes_eq}
 use Rattle.rdf_terms.proofs.Membership.{from_In-map}
@@ -8,23 +8,20 @@ use Rattle.rdf_terms.specs.Dataset.{Dataset, IsValid}
 use Rattle.rdf_terms.specs.Lists.{In, Text}
 use Rattle.canon_model.specs.Allowed.{HashPathResult, first_degree_hashes, issue_results, issued_for_unique_hashes, unissued_nodes}
 use Rattle.canon_model.specs.CountedRun.{counted_hashes, counted_results, counted_start, result_of, ties_of_results, ties_with, trace_of_starts}
-use Rattle.canon_model.specs.Issuer.{is_issued}
 use Rattle.canon_model.specs.Laws.{TiesOfRunAreTied}
 use Rattle.canon_model.specs.Outcome.{HashNDegreeQuads}
-use Rattle.canon_model.specs.Profile.{Profile}
-use Rattle.canon_model.specs.Ties.{IsTie}
+use Rattle.canon_model.specs.Hashing.{Hashing}
+use Rattle.canon_model.specs.Ties.{AreTiedResults, IsTie}
 use Rattle.canon_model.proofs.CallTies.{AreTies, are_ties-append, are_ties-none, ties_of_call_are_tied}
 use Rattle.canon_model.proofs.CanonicalLists.{AreCanonical, unique_hashes-canonical, valid_start}
-use Rattle.canon_model.proofs.Components.{IsComponent}
 use Rattle.canon_model.proofs.CountedAllowed.{counted_results-canonical, outcome_of_start}
-use Rattle.canon_model.proofs.Issuers.{In-from_is_issued, are_distinct_from_once, is_issued-from_In, not_In-from_is_issued}
 use Rattle.canon_model.proofs.LocalSymmetry.{are_quads}
-use Rattle.canon_model.proofs.OutcomeComponents.{component_of_outcome}
 use Rattle.canon_model.proofs.SortedResults.{sort_results-permutes}
 use Rattle.canon_model.proofs.StartNodes.{unissued_node}
+use Rattle.canon_model.proofs.TiedLists.{tied_results-exchanged}
 use Rattle.canon_model.proofs.Totality.{mentions_nodes}
 
-module _ (ρ : Profile) (D : Dataset) (valid : IsValid D) where
+module _ (ρ : Hashing) (D : Dataset) (valid : IsValid D) where
   module _ (c : List ℕ) (k : AreCanonical D c) (h : Text) where
     start-ties : (x : ℕ) → In x (unissued_nodes ρ D c h) → AreTies ρ D (counted_start ρ D c x).trace.ties
     start-ties x i = let s = unissued_node ρ D c h x i in ties_of_call_are_tied ρ D c x (x ∷ []) valid (valid_start D c k x s.0 s.1)
@@ -33,51 +30,24 @@ module _ (ρ : Profile) (D : Dataset) (valid : IsValid D) where
     starts-ties [] sub = are_ties-none ρ D
     starts-ties (x ∷ xs) sub = are_ties-append ρ D (counted_start ρ D c x).trace.ties _ (start-ties x (sub x (inl refl))) (starts-ties xs (λ y g. sub y (inr g)))
 
-    from_start : (r : HashPathResult) → In r (counted_results ρ D c h) → (x : ℕ) × In x (unissued_nodes ρ D c h) × (r ≡ result_of ρ D c x)
+    pub from_start : (r : HashPathResult) → In r (counted_results ρ D c h) → (x : ℕ) × In x (unissued_nodes ρ D c h) × (r ≡ result_of ρ D c x)
     from_start r i = from_In-map (result_of ρ D c) (unissued_nodes ρ D c h) r (In-Permutes r (Permutes-sym (sort_results-permutes (map (result_of ρ D c) (unissued_nodes ρ D c h)))) i)
 
-    start-component : (x : ℕ) → In x (unissued_nodes ρ D c h) → IsComponent D (are_quads D valid) c x (result_of ρ D c x).issuer
-    start-component x i = component_of_outcome ρ D (mentions_nodes D valid) (are_quads D valid) c x (result_of ρ D c x).hash (result_of ρ D c x).issuer (outcome_of_start ρ D valid c k h x i)
-
-    -- two components are one, or have no node in common
-    components-tails : (x y : ℕ) (l m : List ℕ) → IsComponent D (are_quads D valid) c x l → IsComponent D (are_quads D valid) c y m → ((z : ℕ) → (In z l ↔ In z m)) ⊎ ((z : ℕ) → In z l → ¬ (In z m))
-    components-tails x y l m p q = by (is_issued y l) refl
-      where
-        by : (t : Bool) → is_issued y l ≡ t → ((z : ℕ) → (In z l ↔ In z m)) ⊎ ((z : ℕ) → In z l → ¬ (In z m))
-        by true g = inl (λ z. (
-          λ a. In-from_is_issued z m (p.whole m q.closed y z g (is_issued-from_In z l a) q.start),
-          λ a. In-from_is_issued z l (q.whole l p.closed y z q.start (is_issued-from_In z m a) g),
-        ))
-        by false g = inr (λ z a b. true≢false (sym (q.whole l p.closed z y (is_issued-from_In z m b) q.start (is_issued-from_In z l a)) ∙ g))
+    pair-tied : (x y : ℕ) → In x (unissued_nodes ρ D c h) → In y (unissued_nodes ρ D c h) → (result_of ρ D c x).hash ≡ (result_of ρ D c y).hash → AreTiedResults ρ D c [] (result_of ρ D c x).issuer (result_of ρ D c y).issuer
+    pair-tied x y i j e = record {
+      passed_is = refl;
+      left_start = x;
+      right_start = y;
+      hash = (result_of ρ D c x).hash;
+      same_first_degree_hash = (unissued_node ρ D c h x i).2 ∙ sym (unissued_node ρ D c h y j).2;
+      left_outcome = outcome_of_start ρ D valid c k h x i;
+      right_outcome = subst (λ w. HashNDegreeQuads ρ D c y (y ∷ []) w (result_of ρ D c y).issuer) (sym e) (outcome_of_start ρ D valid c k h y j);
+    }
 
     pair-tie : (x y : ℕ) → In x (unissued_nodes ρ D c h) → In y (unissued_nodes ρ D c h) → (result_of ρ D c x).hash ≡ (result_of ρ D c y).hash → IsTie ρ D (record { canonical = c; passed = []; left = (result_of ρ D c x).issuer; right = (result_of ρ D c y).issuer })
     pair-tie x y i j e =
-        let p = start-component x i in
-        let q = start-component y j in
-        record {
-          tied = inl (record {
-            passed_is = refl;
-            left_start = x;
-            right_start = y;
-            hash = (result_of ρ D c x).hash;
-            same_first_degree_hash = (unissued_node ρ D c h x i).2 ∙ sym (unissued_node ρ D c h y j).2;
-            left_outcome = outcome_of_start ρ D valid c k h x i;
-            right_outcome = subst (λ w. HashNDegreeQuads ρ D c y (y ∷ []) w (result_of ρ D c y).issuer) (sym e) (outcome_of_start ρ D valid c k h y j);
-          });
-          may_be_exchanged = record {
-            left_nodes = λ z a. p.below z (is_issued-from_In z (result_of ρ D c x).issuer a);
-            right_nodes = λ z a. q.below z (is_issued-from_In z (result_of ρ D c y).issuer a);
-            left_once = are_distinct_from_once (result_of ρ D c x).issuer p.distinct;
-            right_once = are_distinct_from_once (result_of ρ D c y).issuer q.distinct;
-            left_apart = λ z a. not_In-from_is_issued z c (p.free z (is_issued-from_In z (result_of ρ D c x).issuer a));
-            right_apart = λ z a. not_In-from_is_issued z c (q.free z (is_issued-from_In z (result_of ρ D c y).issuer a));
-            left_tail = (result_of ρ D c x).issuer;
-            right_tail = (result_of ρ D c y).issuer;
-            left_is = refl;
-            right_is = refl;
-            tails = components-tails x y (result_of ρ D c x).issuer (result_of ρ D c y).issuer p q;
-          };
-        }
+        let t = pair-tied x y i j e in
+        record { tied = inl t; may_be_exchanged = tied_results-exchanged ρ D (mentions_nodes D valid) (are_quads D valid) c [] (result_of ρ D c x).issuer (result_of ρ D c y).issuer t }
 
     ties_with-ties : (f : HashPathResult) (rs : List HashPathResult) → In f (counted_results ρ D c h) → ((r : HashPathResult) → In r rs → In r (counted_results ρ D c h)) → AreTies ρ D (ties_with c f rs)
     ties_with-ties f [] fi sub = are_ties-none ρ D

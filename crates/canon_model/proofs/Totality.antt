@@ -14,7 +14,7 @@ use Rattle.canon_model.specs.Groups.{groups}
 use Rattle.canon_model.specs.Issuer.{IsValidCall, is_issued}
 use Rattle.canon_model.specs.Laws.{CountedCallIsOutcome, TotalityOfCalls}
 use Rattle.canon_model.specs.Outcome.{ChosenPath, DataToHash, NDegreeWithin}
-use Rattle.canon_model.specs.Profile.{Profile}
+use Rattle.canon_model.specs.Hashing.{Hashing}
 use Rattle.canon_model.specs.Walk.{CallRelation, RecursionResults, issuer_copy_after, recursion_list}
 use Rattle.canon_model.proofs.CountedGrows.{counted_call-grows, counted_permutations-grows}
 use Rattle.canon_model.proofs.CountedPaths.{chosen_path-counted, counted_permutations-kept, full_issuer, full_path, none_kept}
@@ -27,7 +27,7 @@ use Rattle.canon_model.proofs.Pigeonhole.{are_once-length, begins-length, begins
 abbrev pub MentionsNodes : Dataset → Type 0
 MentionsNodes D = (q : Statement) → In q D.statements → (x : ℕ) → mentions x q ≡ true → x < D.nodes
 
-module _ (ρ : Profile) (D : Dataset) (c : List ℕ) (nodes : MentionsNodes D) where
+module _ (ρ : Hashing) (D : Dataset) (c : List ℕ) (nodes : MentionsNodes D) where
   -- a list that a call may be begun with, with room for calls k deep
   pub record Fits (k : ℕ) (i : List ℕ) : Type 0 where
     pub distinct : AreOnce i
@@ -135,7 +135,7 @@ module _ (ρ : Profile) (D : Dataset) (c : List ℕ) (nodes : MentionsNodes D) w
         (counted_permutations-grows c (counted_call_within k ρ D c) (counted_call-grows D c ρ k) None i (arrangements bg) f.distinct (begins_refl i, f.distinct))
         (subst (Covers D c i (λ y. In y w.chosen)) (sym w.issuer_is) (permutation_path-coverage D c S cover i w.chosen (w.paths.path w.chosen) (w.paths.issuer w.chosen) (w.paths.walks w.chosen w.is_least.permutes))) f
 
-    data_to_hash-counted : (b : Text → List ℕ) → ((h : Text) (x : ℕ) → In x (b h) → x < D.nodes) → (hs : List Text) (i : List ℕ) → Fits (suc k) i
+    pub data_to_hash-counted : (b : Text → List ℕ) → ((h : Text) (x : ℕ) → In x (b h) → x < D.nodes) → (hs : List Text) (i : List ℕ) → Fits (suc k) i
         → DataToHash S c b hs i (counted_groups (counted_call_within k ρ D c) c b hs i).value.text (counted_groups (counted_call_within k ρ D c) c b hs i).value.issuer
     data_to_hash-counted b low [] i f = (refl, refl)
     data_to_hash-counted b low (h ∷ hs) i f =
@@ -193,7 +193,7 @@ mentions_nodes D valid q h x m = by (or_cases (is_node x q.subject) (is_node x q
     by (inl e) = term_below D.nodes q.subject v.subject x e
     by (inr e) = two (or_cases (is_node x q.object) (is_named_by x q.graph_name) e)
 
-pub fits_valid_call : (ρ : Profile) (D : Dataset) (c : List ℕ) (nodes : MentionsNodes D) (k n : ℕ) (i : List ℕ) → IsValidCall D c n i → D.nodes < k + length i → Fits ρ D c nodes k i
+pub fits_valid_call : (ρ : Hashing) (D : Dataset) (c : List ℕ) (nodes : MentionsNodes D) (k n : ℕ) (i : List ℕ) → IsValidCall D c n i → D.nodes < k + length i → Fits ρ D c nodes k i
 fits_valid_call ρ D c nodes k n i v room = record {
   distinct = are_once_from_distinct i v.temporary_once;
   below = λ x h. v.temporary_nodes x (In-from_is_issued x i h);

@@ -1,5 +1,5 @@
 pub mod HexHash
-pub mod Profile
+pub mod Hashing
 pub mod FirstDegree
 pub mod Issuer
 pub mod RelatedHash
@@ -12,3 +12,8 @@ pub mod CountedRun
 pub mod Coverage
 pub mod Ties
 pub mod Laws
+pub mod QuadOrder
+pub mod Recursion
+pub mod TieSymmetry
+pub mod TwoLists
+pub mod TwoOutcomes

@@ -16,5 +16,5 @@ pub mod LineTexts
 pub mod NameTexts
 pub mod Matching
 pub mod Partners
-mod TextTells
+pub mod TextTells
 pub mod NamedNodes

@@ -5,7 +5,7 @@ use Rattle.rdf_terms.specs.Terms.{Statement}
 use Rattle.rdf_terms.specs.Dataset.{statements_of}
 use Rattle.rdf_terms.specs.Document.{Document, dataset, statements}
 use Rattle.rdf_terms.specs.CanonicalForm.{canonical_line}
-use Rattle.canon_model.specs.Profile.{sha256_each}
+use Rattle.canon_model.specs.Hashing.{sha256_each}
 use Rattle.canon_model.specs.FirstDegree.{first_degree_names, hash_first_degree_quads}
 
 -- the hash of each node, by node

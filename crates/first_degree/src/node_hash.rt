@@ -1,6 +1,6 @@
 ghost use Rattle.std.specs.Prelude.{◌≡◌, ◌<◌, ◌++◌, [], ◌∷◌, length, IfOk, OnOk};
 ghost use Rattle.rdf_terms.specs.Document.{dataset as dataset_of};
-ghost use Rattle.canon_model.specs.Profile.{sha256_each};
+ghost use Rattle.canon_model.specs.Hashing.{sha256_each};
 ghost use Rattle.canon_model.specs.FirstDegree.{hash_first_degree_quads};
 ghost use Rattle.first_degree.specs.FirstHashes.{first_degree_lines, line_at};
 

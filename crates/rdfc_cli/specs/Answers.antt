@@ -13,7 +13,7 @@ use Rattle.outside.specs.Faults.{Rose}
 use Rattle.nquads_reader.specs.Document.{IsNQuads, IsCauseOf}
 use Rattle.nquads_reader.specs.declared.TheConstants.{MAX_QUADS}
 use Rattle.nquads_reader.specs.declared.fault.ReadFault.TheVariants.{NotUtf8 as NotUtf8Fault, BadLine as BadLineFault, RelativeIri as RelativeIriFault, TooManyQuads as TooManyQuadsFault}
-use Rattle.canon_model.specs.Profile.{sha256_each}
+use Rattle.canon_model.specs.Hashing.{sha256_each}
 use Rattle.canon_model.specs.FirstDegree.{hash_first_degree_quads}
 use Rattle.rdfc_cli.specs.Order.{IsOrderBy, HasEqualHashes}
 use Rattle.rdfc_cli.specs.Puts.{IsCutShort}

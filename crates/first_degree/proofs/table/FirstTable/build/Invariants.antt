@@ -1,7 +1,7 @@
 use Rattle.std.proofs.Common.{◌≡◌, map}
 use Rattle.rdf_terms.specs.Lists.{numbers_below}
 use Rattle.rdf_terms.specs.Document.{dataset as dataset_of}
-use Rattle.canon_model.specs.Profile.{sha256_each}
+use Rattle.canon_model.specs.Hashing.{sha256_each}
 use Rattle.canon_model.specs.FirstDegree.{hash_first_degree_quads}
 use Rattle.first_degree.proofs.table.FirstTable.build.Given as goal
 
