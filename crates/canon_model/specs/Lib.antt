@@ -1,5 +1,7 @@
+pub mod Digits
 pub mod HexHash
 pub mod Hashing
+pub mod Meaning
 pub mod FirstDegree
 pub mod Issuer
 pub mod RelatedHash
@@ -11,6 +13,8 @@ pub mod Arrangements
 pub mod CountedRun
 pub mod Coverage
 pub mod Ties
+pub mod JoinedTies
+pub mod Output
 pub mod Laws
 pub mod QuadOrder
 pub mod Recursion
