@@ -5,12 +5,12 @@ use Rattle.rdf_terms.specs.Terms.{Statement}
 use Rattle.rdf_terms.specs.Dataset.{statements_of}
 use Rattle.rdf_terms.specs.Document.{Document, dataset, statements}
 use Rattle.rdf_terms.specs.CanonicalForm.{canonical_line}
-use Rattle.canon_model.specs.Hashing.{sha256_each}
+use Rattle.canon_model.specs.Hashing.{Hashing}
 use Rattle.canon_model.specs.FirstDegree.{first_degree_names, hash_first_degree_quads}
 
 -- the hash of each node, by node
-abbrev pub first_degree_hashes : Document → List Text
-first_degree_hashes d = map (hash_first_degree_quads sha256_each (dataset d)) (numbers_below (length d.labels))
+abbrev pub first_degree_hashes : Hashing → Document → List Text
+first_degree_hashes ρ d = map (hash_first_degree_quads ρ (dataset d)) (numbers_below (length d.labels))
 
 -- the lines of the quads that mention the node, with the node as `_:a` and each other blank node as `_:z`
 abbrev pub first_degree_lines : Document → ℕ → List Text

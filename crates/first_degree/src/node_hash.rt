@@ -1,11 +1,13 @@
+//! The lines of the quads of one node, and their hash.
+
 ghost use Rattle.std.specs.Prelude.{◌≡◌, ◌<◌, ◌++◌, [], ◌∷◌, length, IfOk, OnOk};
 ghost use Rattle.rdf_terms.specs.Document.{dataset as dataset_of};
-ghost use Rattle.canon_model.specs.Hashing.{sha256_each};
+ghost use Rattle.canon_model.specs.Meaning.{meaning};
 ghost use Rattle.canon_model.specs.FirstDegree.{hash_first_degree_quads};
 ghost use Rattle.first_degree.specs.FirstHashes.{first_degree_lines, line_at};
 
-use crate::digest::{digest_sorted, in_hexadecimal};
-use canon_model::HexHash;
+use crate::digest::hash_sorted;
+use canon_model::{HexHash, Profile};
 use canonical_writer::{DegreeNames, Lines};
 use dataset_index::Dataset;
 use rdf_terms::NoMemory;
@@ -39,11 +41,12 @@ pub(crate) fn hash_node(
     lines: &mut Lines,
     dataset: &Dataset,
     node: u32,
+    profile: Profile,
 ) -> Result<HexHash, NoMemory>
     requires { node < length dataset.now.labels }
-    ensures { IfOk result (λ hash. hash ≡ hash_first_degree_quads sha256_each (dataset_of dataset.now) node) }
+    ensures { IfOk result (λ hash. hash ≡ hash_first_degree_quads (meaning profile) (dataset_of dataset.now) node) }
 {
     write_lines(lines, dataset, node)?;
-    let digest = digest_sorted(alloc, lines)?;
-    Ok(in_hexadecimal(&digest))
+    let hash = hash_sorted(alloc, lines, profile)?;
+    Ok(hash)
 }

@@ -1,8 +1,11 @@
+//! The hashes of all nodes.
+
 ghost use Rattle.std.specs.Prelude.{◌≡◌, ◌<◌, Some, length, slice_get, IfOk};
+ghost use Rattle.canon_model.specs.Meaning.{meaning};
 ghost use Rattle.first_degree.specs.FirstHashes.{first_degree_hashes};
 
 use crate::node_hash::hash_node;
-use canon_model::HexHash;
+use canon_model::{HexHash, Profile};
 use canonical_writer::Lines;
 use dataset_index::Dataset;
 use rdf_terms::NoMemory;
@@ -26,15 +29,15 @@ impl Model for FirstTable {
 
 impl FirstTable {
     /// Hashes each node once: for each mention of a node one line is written.
-    pub fn build(alloc: Global, dataset: &Dataset) -> Result<Self, NoMemory>
-        ensures hashes { IfOk result (λ table. table ≡ first_degree_hashes dataset.now) }
+    pub fn build(alloc: Global, dataset: &Dataset, profile: Profile) -> Result<Self, NoMemory>
+        ensures hashes { IfOk result (λ table. table ≡ first_degree_hashes (meaning profile) dataset.now) }
         ensures count { IfOk result (λ table. length table ≡ length dataset.now.labels) }
     {
         let nodes = dataset.node_count();
         let mut lines = Lines::new(alloc);
         let mut hashes = Vec::with_capacity(alloc, nodes as usize)?;
         for node in 0..nodes {
-            hashes.push(hash_node(alloc, &mut lines, dataset, node)?)?;
+            hashes.push(hash_node(alloc, &mut lines, dataset, node, profile)?)?;
         }
         Ok(FirstTable { hashes })
     }

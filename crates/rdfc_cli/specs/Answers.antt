@@ -13,7 +13,8 @@ use Rattle.outside.specs.Faults.{Rose}
 use Rattle.nquads_reader.specs.Document.{IsNQuads, IsCauseOf}
 use Rattle.nquads_reader.specs.declared.TheConstants.{MAX_QUADS}
 use Rattle.nquads_reader.specs.declared.fault.ReadFault.TheVariants.{NotUtf8 as NotUtf8Fault, BadLine as BadLineFault, RelativeIri as RelativeIriFault, TooManyQuads as TooManyQuadsFault}
-use Rattle.canon_model.specs.Hashing.{sha256_each}
+use Rattle.canon_model.specs.declared.profile.TheConstants.Profile.{DEFAULT}
+use Rattle.canon_model.specs.Meaning.{meaning}
 use Rattle.canon_model.specs.FirstDegree.{hash_first_degree_quads}
 use Rattle.rdfc_cli.specs.Order.{IsOrderBy, HasEqualHashes}
 use Rattle.rdfc_cli.specs.Puts.{IsCutShort}
@@ -43,7 +44,7 @@ pub record Accepts (bytes : Text) (D : Dataset) : Type 0 where
 
 -- the first-degree hash of a node (RDF Dataset Canonicalization, section 4.6)
 abbrev pub first_degree_hash : Dataset → ℕ → Text
-first_degree_hash D n = hash_first_degree_quads sha256_each D n
+first_degree_hash D n = hash_first_degree_quads (meaning DEFAULT) D n
 
 -- the canonical form where the hashes of all nodes differ: nodes get canonical identifiers in the order of their hashes (section 4.4)
 pub record IsCanonicalForm (D : Dataset) (text : Text) : Type 0 where

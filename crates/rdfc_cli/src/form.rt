@@ -11,6 +11,7 @@ ghost use Rattle.rdfc_cli.specs.declared.form.FormFault.TheVariants.{NoMemory as
 
 use crate::order::order_by_hash;
 use crate::words::Task;
+use canon_model::Profile;
 use canonical_writer::{ListNames, write_sorted_in};
 use dataset_index::Dataset;
 use first_degree::FirstTable;
@@ -41,7 +42,7 @@ fn canonical_order(alloc: Global, dataset: &Dataset) -> Result<Vec<u32>, FormFau
     ensures fault { IfErr result (IsFormFault (dataset_of dataset.now)) }
 {
     let nodes = dataset.node_count();
-    let table = FirstTable::build(alloc, dataset)?;
+    let table = FirstTable::build(alloc, dataset, Profile::DEFAULT)?;
     match order_by_hash(alloc, nodes, table.all())? {
         Some(order) => Ok(order),
         None => Err(FormFault::EqualHashes),

@@ -3,7 +3,7 @@
 
 ghost use Rattle.std.specs.Prelude.{◌≤◌, length};
 
-use canon_model::HexHash;
+use canon_model::{HexHash, Profile};
 use dataset_index::Dataset;
 use first_degree::FirstTable;
 use nquads_reader::read_nquads;
@@ -24,7 +24,7 @@ fn table_of(alloc: Global, text: &str) -> Result<Option<FirstTable>, Fail>
         return Ok(None);
     };
     let dataset = Dataset::build(alloc, parsed)?;
-    Ok(Some(FirstTable::build(alloc, &dataset)?))
+    Ok(Some(FirstTable::build(alloc, &dataset, Profile::DEFAULT)?))
 }
 
 fn is_written(hash: &HexHash, text: &str) -> bool {

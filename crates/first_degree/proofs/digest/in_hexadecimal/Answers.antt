@@ -1,8 +1,0 @@
-use Rattle.std.proofs.Common.{subst, sym, ap, ◌∙◌}
-use Rattle.hex.specs.Hex.{encode_lower}
-use Rattle.canon_model.specs.HexHash.{IsHexHash}
-use Rattle.canon_model.proofs.HexHashes.{IsHexHash-encode_lower}
-use Rattle.first_degree.proofs.digest.in_hexadecimal.Goals as goal
-
-pub new-requires : goal.new-requires
-new-requires c = subst IsHexHash (sym (c.in-Ok.ensures.written ∙ ap encode_lower c.as_slice.ensures)) (IsHexHash-encode_lower c.args.digest.now c.told-digest c.fits-digest)
