@@ -10,6 +10,7 @@ mod ReadLines
 mod Used
 mod Adding
 mod OneReading
+mod Causes
 mod WrittenTerminals
 mod WrittenQuads
 mod WrittenTerms

@@ -55,14 +55,14 @@ state_more : (lines : List Text) (quads : List StatedQuad) (line : Text) (stated
 state_more [] quads line stated h f = (stated, [], f, ap (λ qs. qs ++ quads_in stated) h ∙ sym (append-nil (quads_in stated)), refl)
 state_more (l ∷ ls) quads line stated h f = (h.0, h.1 ++ quads_in stated, h.2, ap (λ qs. qs ++ quads_in stated) h.3 ∙ append_assoc (quads_in h.0) h.1 (quads_in stated), state_more ls h.1 line stated h.4 f)
 
-abbrev IsPassed : Text → Type 0
+abbrev pub IsPassed : Text → Type 0
 IsPassed line = (stated : Option StatedQuad) × IsFaultless line stated
 
 states_append : (lines : List Text) (quads : List StatedQuad) (others : List Text) (more : List StatedQuad) → AllState lines quads → AllState others more → AllState (lines ++ others) (quads ++ more)
 states_append [] quads others more h k = subst (λ qs. AllState others (qs ++ more)) (sym h) k
 states_append (l ∷ ls) quads others more h k = (h.0, h.1 ++ more, h.2, ap (λ qs. qs ++ more) h.3 ∙ append_assoc (quads_in h.0) h.1 more, states_append ls h.1 others more h.4 k)
 
-all_passed : (lines : List Text) (quads : List StatedQuad) → AllState lines quads → All IsPassed lines
+pub all_passed : (lines : List Text) (quads : List StatedQuad) → AllState lines quads → All IsPassed lines
 all_passed [] quads h = All-nil IsPassed
 all_passed (l ∷ ls) quads h = All-cons IsPassed l ls (h.0, h.2) (all_passed ls h.1 h.4)
 
