@@ -20,3 +20,4 @@ pub mod Longs
 pub mod Quoting
 pub mod AllKinds
 pub mod Places
+pub mod Spelled

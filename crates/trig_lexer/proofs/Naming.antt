@@ -24,10 +24,10 @@ use Rattle.trig_lexer.proofs.Pieces.{IsInner}
 
 -- ---- no `:` stands in a prefix
 
-abbrev is_no_colon : ℕ → Bool
+abbrev pub is_no_colon : ℕ → Bool
 is_no_colon c = not (c == 58)
 
-abbrev HasNoColon : Characters → Type 0
+abbrev pub HasNoColon : Characters → Type 0
 HasNoColon xs = All (λ c. is_no_colon c ≡ true) xs
 
 untaken_colon : (p : ℕ → Bool) (c : ℕ) → p 58 ≡ false → p c ≡ true → is_no_colon c ≡ true
@@ -63,7 +63,7 @@ part_no_colon : (xs : Characters) → IsPart Prefix xs → HasNoColon xs
 part_no_colon xs is =
     subst HasNoColon (sym is.spelling) (all_append (λ c. is_no_colon c ≡ true) is.first is.more (piece_no_colon First is.first is.begins) (more_no_colon is.more is.goes_on))
 
-prefix_no_colon : (xs : Characters) → (xs ≡ []) ⊎ IsPart Prefix xs → HasNoColon xs
+pub prefix_no_colon : (xs : Characters) → (xs ≡ []) ⊎ IsPart Prefix xs → HasNoColon xs
 prefix_no_colon xs (inl nothing) = subst HasNoColon (sym nothing) (λ k d l. absurd (omega arith))
 prefix_no_colon xs (inr is) = part_no_colon xs is
 

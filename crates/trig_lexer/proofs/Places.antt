@@ -15,7 +15,7 @@ use Rattle.trig_lexer.specs.Longest.{BeginsWithLongest, TextBeginsWithNoToken}
 use Rattle.trig_lexer.specs.Longer.{Finds}
 use Rattle.trig_lexer.specs.WhiteSpace.{AreGapsThen, IsSkipped}
 use Rattle.trig_lexer.specs.WhiteSpace.AreGapsThen.{no_gap, one_gap}
-use Rattle.trig_lexer.specs.Tokens.{IsToken, IsNext, IsTokenAt, HasNoTokenAt}
+use Rattle.trig_lexer.specs.Tokens.{IsToken, IsNext, IsTokenStart, IsTokenAt, HasNoTokenAt}
 use Rattle.trig_lexer.specs.Groups.{GroupShapes}
 use Rattle.trig_lexer.proofs.WhiteSpace.{gap_front}
 use Rattle.trig_lexer.proofs.AllKinds.{finds_token}
@@ -112,6 +112,9 @@ module _ (after_string : Bool) (text part behind : Text) (place : ℕ) (within :
 
   pub behind_boundary : IsUtf8 behind → IsCharBoundary text (length text - length behind)
   behind_boundary utf8 = rest_boundary text (take place text ++ skipped.0) behind whole utf8
+
+  pub starts_at : IsTokenStart text place (length text - length behind)
+  starts_at = record { behind = begins; within = omega arith; skips = skips_at }
 
   pub no_token_at : behind ≢ [] → TextBeginsWithNoToken (IsToken after_string) behind → HasNoTokenAt after_string text place
   no_token_at some none = record {

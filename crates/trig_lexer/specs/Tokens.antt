@@ -52,6 +52,12 @@ abbrev pub IsNext : Bool → Kind → Characters → Characters → Type 0
 IsNext after_string kind [] rest = (kind ≡ End) × (rest ≡ [])
 IsNext after_string kind (c ∷ more) rest = BeginsWithLongest (IsToken after_string) (c ∷ more) kind rest
 
+-- The next token should begin at this place: what stands before it, from the first place on, is white space and comments, and it is neither.
+pub record IsTokenStart (text : Text) (place start : ℕ) : Type 0 where
+  pub behind : place ≤ start
+  pub within : start ≤ length text
+  pub skips : TextReads IsSkipped (drop place text) (drop start text)
+
 -- The token stands behind the white space and the comments that follow the place.
 pub record IsTokenAt (after_string : Bool) (text : Text) (place : ℕ) (token : Token) : Type 0 where
   pub behind : place ≤ token.start

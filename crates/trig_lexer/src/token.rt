@@ -1,8 +1,9 @@
-ghost use Rattle.std.specs.Prelude.{◌≢◌, [], IfSome, IfNone};
+ghost use Rattle.std.specs.Prelude.{◌≢◌, ◌<◌, [], IfSome, IfNone};
 ghost use Rattle.std.specs.Str.{IsCharBoundary};
 ghost use Rattle.trig_lexer.specs.Longest.{TextBeginsWithNoToken};
 ghost use Rattle.trig_lexer.specs.Fronts.{TextReads};
-ghost use Rattle.trig_lexer.specs.Tokens.{IsToken, IsNext, IsTokenAt, HasNoTokenAt};
+ghost use Rattle.trig_lexer.specs.Tokens.{IsToken, IsNext, IsTokenStart, IsTokenAt, HasNoTokenAt};
+ghost use Rattle.trig_lexer.specs.declared.kind.Kind.TheVariants.{End};
 
 use crate::Kind;
 use crate::all_kinds::token;
@@ -32,6 +33,16 @@ fn next(text: &str, after_string: bool) -> Option<Found<'_>>
     token(text, after_string)
 }
 
+/// Where the next token behind the place `at` should begin: behind the white space and the comments
+/// that follow it. The text may be cut at `at`.
+pub fn token_start(text: &str, at: usize) -> usize
+    requires { IsCharBoundary text.now at }
+    ensures starts { IsTokenStart text.now at result }
+    ensures boundary { IsCharBoundary text.now result }
+{
+    text.len() - after_gaps(&text[at..]).len()
+}
+
 /// The next token behind the place `at`, which is one where the text may be cut. White space and
 /// comments before the token are skipped. `after_string` says whether the token before it was a
 /// string: `@prefix` and `@base` are language tags then.
@@ -41,6 +52,9 @@ pub fn next_token(text: &str, at: usize, after_string: bool) -> Option<Token>
     ensures none { IfNone result (HasNoTokenAt after_string text.now at) }
     ensures starts { IfSome result (λ token. IsCharBoundary text.now token.start) }
     ensures ends { IfSome result (λ token. IsCharBoundary text.now token.end) }
+
+    // All tokens but the end of the text have characters.
+    ensures goes_on { IfSome result (λ token. token.kind ≢ End → at < token.end) }
 {
     let behind = after_gaps(&text[at..]);
     let found = next(behind, after_string)?;

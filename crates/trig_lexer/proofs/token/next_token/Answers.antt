@@ -1,5 +1,6 @@
 use Rattle.terminals.proofs.Outcomes.{IfNone_since}
 use Rattle.trig_lexer.proofs.Places.{behind_within, behind_boundary, no_token_at, rest_of_token_within, end_boundary, token_at}
+use Rattle.trig_lexer.proofs.Spelled.{ends_behind}
 use Rattle.trig_lexer.proofs.token.next_token.Goals as goal
 
 pub returns-in_err-found-clause-none : goal.returns-in_err-found-clause-none
@@ -31,3 +32,9 @@ pub returns-clause-ends : goal.returns-clause-ends
 returns-clause-ends c =
     end_boundary c.args.after_string c.args.text.now _ _ c.args.at c.requires.0 c.range_from.ensures.value c.after_gaps-behind.ensures
     _ _ c.in_ok-found.ensures.found c.after_gaps-behind.utf8
+
+pub returns-clause-goes_on : goal.returns-clause-goes_on
+returns-clause-goes_on c =
+    ends_behind c.args.after_string c.args.text.now c.args.at _
+    (token_at c.args.after_string c.args.text.now _ _ c.args.at c.requires.0 c.range_from.ensures.value c.after_gaps-behind.ensures
+    _ _ c.in_ok-found.ensures.found)
