@@ -9,6 +9,7 @@ use crate::number::take_quads;
 use crate::{MAX_QUADS, ReadFault};
 use rdf_terms::{Draft, Parsed};
 use std::alloc::Global;
+use std::hash::RandomState;
 
 // A file gets room for one quad and one term for each so many bytes at once, and more as it needs it.
 const EXPECTED_LINE: usize = 64;
@@ -26,13 +27,13 @@ fn read_fault(line: u64, fault: LineFault) -> ReadFault
 }
 
 // Adds what the lines of the document state, in their order.
-fn read_lines(alloc: Global, bytes: &[u8]) -> Result<Draft, ReadFault>
+fn read_lines(alloc: Global, keys: RandomState, bytes: &[u8]) -> Result<Draft, ReadFault>
     requires { length bytes.now ≤ 4294967295 }
     ensures ok { IfOk result (λ draft. IsNQuads bytes.now draft.labels (statements draft)) }
     ensures err { IfErr result (IsCauseOf bytes.now) }
 {
     let expected = bytes.len() / EXPECTED_LINE;
-    let mut draft = Draft::with_capacity(alloc, expected, expected)?;
+    let mut draft = Draft::with_capacity(alloc, keys, expected, expected)?;
     let mut quads = Vec::new(alloc);
     let mut rest = bytes;
     let mut lines = 0u64;
@@ -53,14 +54,19 @@ fn read_lines(alloc: Global, bytes: &[u8]) -> Result<Draft, ReadFault>
 ///
 /// A line ends at LF, at CR LF or at a CR alone. A label names one node in the whole document, and
 /// nodes are numbered from 0 by their first mention, in a line as subject, object and graph name.
-pub fn read_nquads(alloc: Global, bytes: &[u8]) -> Result<Parsed, ReadFault>
+/// The keys are those of the tables' hashes; no answer depends on them.
+pub fn read_nquads(
+    alloc: Global,
+    keys: RandomState,
+    bytes: &[u8],
+) -> Result<Parsed, ReadFault>
     requires { length bytes.now ≤ 4294967295 }
     ensures ok { IfOk result (λ parsed. IsNQuads bytes.now parsed.labels (statements parsed)) }
     ensures within { IfOk result (λ parsed. length (statements parsed) ≤ MAX_QUADS) }
     ensures document { IfOk result IsDocument }
     ensures err { IfErr result (IsCauseOf bytes.now) }
 {
-    let draft = read_lines(alloc, bytes)?;
+    let draft = read_lines(alloc, keys, bytes)?;
     if draft.quad_count() > MAX_QUADS {
         return Err(ReadFault::TooManyQuads);
     }

@@ -11,6 +11,7 @@ use crate::numbering::{insert_all, number_all, number_terms};
 use crate::{Label, LabelRef, NoMemory, Parsed, Quad, StatementRef, Term, TermRef, TermTable};
 use indexmap::IndexSet;
 use std::alloc::Global;
+use std::hash::RandomState;
 use std::marker::Model;
 
 /// A document that is being read, in which a node may still stand in no quad.
@@ -18,8 +19,8 @@ use std::marker::Model;
 pub struct Draft {
     alloc: Global,
     terms: TermTable,
-    quads: IndexSet<Quad>,
-    labels: IndexSet<Label>,
+    quads: IndexSet<Quad, RandomState>,
+    labels: IndexSet<Label, RandomState>,
 }
 
 impl Model for Draft {
@@ -42,27 +43,33 @@ fn graph_name_ref(graph_name: &Option<Term>) -> Option<TermRef<'_>>
 }
 
 impl Draft {
-    /// No node and no quad.
-    pub fn new(alloc: Global) -> Self
+    /// No node and no quad. The keys are those of the hashes by which terms, quads and labels are
+    /// found; no answer depends on them.
+    pub fn new(alloc: Global, keys: RandomState) -> Self
         ensures { result ≡ record { terms = []; quads = []; labels = [] } }
     {
         Draft {
             alloc,
-            terms: TermTable::new(alloc),
-            quads: IndexSet::new(alloc),
-            labels: IndexSet::new(alloc),
+            terms: TermTable::new(alloc, keys),
+            quads: IndexSet::with_hasher(alloc, keys),
+            labels: IndexSet::with_hasher(alloc, keys),
         }
     }
 
     /// No node and no quad, with room for so many quads and terms. More may come.
-    pub fn with_capacity(alloc: Global, quads: usize, terms: usize) -> Result<Self, NoMemory>
+    pub fn with_capacity(
+        alloc: Global,
+        keys: RandomState,
+        quads: usize,
+        terms: usize,
+    ) -> Result<Self, NoMemory>
         ensures { IfOk result (λ draft. draft ≡ record { terms = []; quads = []; labels = [] }) }
     {
         Ok(Draft {
             alloc,
-            terms: TermTable::with_capacity(alloc, terms)?,
-            quads: IndexSet::with_capacity(alloc, quads)?,
-            labels: IndexSet::new(alloc),
+            terms: TermTable::with_capacity(alloc, keys, terms)?,
+            quads: IndexSet::with_capacity_and_hasher(alloc, quads, keys)?,
+            labels: IndexSet::with_hasher(alloc, keys),
         })
     }
 
@@ -151,6 +158,13 @@ impl Draft {
             return Err(NoMemory);
         };
         Ok(())
+    }
+
+    /// How many labels have a node, which is the number that the next new one gets.
+    pub fn label_count(&self) -> u32
+        ensures { result ≡ length self.now.labels }
+    {
+        self.labels.len() as u32
     }
 
     /// The number of distinct quads.

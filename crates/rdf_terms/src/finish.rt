@@ -6,6 +6,7 @@ ghost use Rattle.rdf_terms.specs.declared.term.Term.TheVariants.{Blank};
 use crate::{Label, NoMemory, Term, TermTable};
 use indexmap::IndexSet;
 use std::alloc::Global;
+use std::hash::RandomState;
 
 // Marks the node, where the term is one.
 fn mark(used: &mut Vec<bool>, term: &Term)
@@ -57,7 +58,11 @@ pub fn new_numbers(alloc: Global, used: &[bool]) -> Result<Vec<u32>, NoMemory>
 }
 
 // Keeps the label, where its node is used.
-fn keep(kept: &mut IndexSet<Label>, label: Label, is_used: bool) -> Result<(), NoMemory>
+fn keep(
+    kept: &mut IndexSet<Label, RandomState>,
+    label: Label,
+    is_used: bool,
+) -> Result<(), NoMemory>
     requires { ¬ (In label kept.old.keys) }
     ensures { OnOk result (kept.new.keys ≡ kept.old.keys ++ (if is_used then label ∷ [] else [])) }
 {
@@ -70,14 +75,14 @@ fn keep(kept: &mut IndexSet<Label>, label: Label, is_used: bool) -> Result<(), N
 /// The labels of the used nodes, in their order.
 pub fn used_labels(
     alloc: Global,
-    labels: IndexSet<Label>,
+    labels: IndexSet<Label, RandomState>,
     used: &[bool],
-) -> Result<IndexSet<Label>, NoMemory>
+) -> Result<IndexSet<Label, RandomState>, NoMemory>
     requires len { length used.now ≡ length labels.keys }
     requires distinct { AreDistinct labels.keys }
     ensures { IfOk result (λ s. s.keys ≡ marked_of used.now labels.keys) }
 {
-    let mut kept = IndexSet::new(alloc);
+    let mut kept = IndexSet::with_hasher(alloc, *labels.hasher());
     for (node, label) in labels.into_iter().enumerate() {
         keep(&mut kept, label, used[node])?;
     }

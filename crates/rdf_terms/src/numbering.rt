@@ -7,6 +7,7 @@ use crate::ends::{KnownEnds, known_ends};
 use crate::{NoMemory, Quad, StatementRef, TermTable};
 use indexmap::IndexSet;
 use std::alloc::Global;
+use std::hash::RandomState;
 
 /// The quad of these terms, which get numbers where they have none. The known ends are those of
 /// this quad. Where memory is refused, terms that came before stay in the table.
@@ -53,7 +54,7 @@ pub(crate) fn number_all(
 }
 
 // How many of the quads the set lacks.
-fn count_new(quads: &IndexSet<Quad>, numbered: &[Quad]) -> usize {
+fn count_new(quads: &IndexSet<Quad, RandomState>, numbered: &[Quad]) -> usize {
     numbered
         .iter()
         .filter(|quad| !quads.contains(*quad))
@@ -64,7 +65,10 @@ fn count_new(quads: &IndexSet<Quad>, numbered: &[Quad]) -> usize {
 ///
 /// To count them, each is looked for. Here no look waits for the one before it, so that the memory
 /// of many is fetched at a time, and when the quads are inserted it is at hand.
-fn make_room(quads: &mut IndexSet<Quad>, numbered: &[Quad]) -> Result<(), NoMemory>
+fn make_room(
+    quads: &mut IndexSet<Quad, RandomState>,
+    numbered: &[Quad],
+) -> Result<(), NoMemory>
     ensures { quads.new.keys ≡ quads.old.keys }
 {
     let count = count_new(quads, numbered);
@@ -73,7 +77,10 @@ fn make_room(quads: &mut IndexSet<Quad>, numbered: &[Quad]) -> Result<(), NoMemo
 }
 
 /// Inserts the quads in their order. Where memory is refused, those before stay in the set.
-pub(crate) fn insert_all(quads: &mut IndexSet<Quad>, numbered: &[Quad]) -> Result<(), NoMemory>
+pub(crate) fn insert_all(
+    quads: &mut IndexSet<Quad, RandomState>,
+    numbered: &[Quad],
+) -> Result<(), NoMemory>
     ensures adds { OnOk result (AddsAll quads.old.keys numbered.now quads.new.keys) }
     ensures extends { Extends quads.old.keys quads.new.keys }
 {

@@ -3,14 +3,15 @@ ghost use Rattle.rdf_terms.specs.Document.{IsDocument};
 
 use crate::{Label, Quad, TermTable};
 use indexmap::IndexSet;
+use std::hash::RandomState;
 use std::marker::Model;
 
 /// A document that was read whole: each node stands in a quad.
 #[derive(Drop)]
 pub struct Parsed {
     terms: TermTable,
-    quads: IndexSet<Quad>,
-    labels: IndexSet<Label>,
+    quads: IndexSet<Quad, RandomState>,
+    labels: IndexSet<Label, RandomState>,
 }
 
 impl Model for Parsed {
@@ -24,7 +25,11 @@ impl Model for Parsed {
 }
 
 impl Parsed {
-    pub(crate) fn new(terms: TermTable, quads: IndexSet<Quad>, labels: IndexSet<Label>) -> Self
+    pub(crate) fn new(
+        terms: TermTable,
+        quads: IndexSet<Quad, RandomState>,
+        labels: IndexSet<Label, RandomState>,
+    ) -> Self
         requires { IsDocument (record { terms = terms; quads = quads.keys; labels = labels.keys }) }
         ensures { result ≡ record { terms = terms; quads = quads.keys; labels = labels.keys } }
     {

@@ -12,12 +12,13 @@ use crate::node_number::NodeNumber;
 use crate::{NoMemory, Term, TermRef};
 use indexmap::IndexSet;
 use std::alloc::Global;
+use std::hash::RandomState;
 use std::marker::Model;
 
 /// Terms by number: each term once, numbered from 0 in the order in which they came.
 #[derive(Drop)]
 pub struct TermTable {
-    terms: IndexSet<Term>,
+    terms: IndexSet<Term, RandomState>,
 }
 
 impl Model for TermTable {
@@ -43,20 +44,25 @@ fn renumbered_term(term: Term, numbers: &[u32]) -> Term
 }
 
 impl TermTable {
-    pub fn new(alloc: Global) -> Self
+    /// An empty table. The keys are those of its hashes; no answer depends on them.
+    pub fn new(alloc: Global, keys: RandomState) -> Self
         ensures { result ≡ [] }
     {
         TermTable {
-            terms: IndexSet::new(alloc),
+            terms: IndexSet::with_hasher(alloc, keys),
         }
     }
 
     /// An empty table with room for so many terms.
-    pub fn with_capacity(alloc: Global, terms: usize) -> Result<Self, NoMemory>
+    pub fn with_capacity(
+        alloc: Global,
+        keys: RandomState,
+        terms: usize,
+    ) -> Result<Self, NoMemory>
         ensures { IfOk result (λ table. table ≡ []) }
     {
         Ok(TermTable {
-            terms: IndexSet::with_capacity(alloc, terms)?,
+            terms: IndexSet::with_capacity_and_hasher(alloc, terms, keys)?,
         })
     }
 
@@ -169,7 +175,7 @@ impl TermTable {
         ensures { IfOk result (λ t. t ≡ map (relabel_term (number_in numbers.now)) self) }
     {
         let TermTable { terms } = self;
-        let mut fresh = TermTable::new(alloc);
+        let mut fresh = TermTable::new(alloc, *terms.hasher());
         for term in terms {
             fresh.intern(renumbered_term(term, numbers))?;
         }

@@ -19,6 +19,7 @@ use nquads_reader::{ReadFault, read_nquads};
 use outside::{Shelf, Sink};
 use rdf_terms::{Bytes, NoMemory, Parsed};
 use std::alloc::Global;
+use std::hash::RandomState;
 
 fn refused(cause: Cause) -> Status
     ensures { result ≡ Status.Refused (record { file = 0; cause = cause }) }
@@ -39,24 +40,24 @@ fn refused_by_reader(fault: ReadFault) -> Status
 }
 
 // What the bytes of a file within the limit state.
-fn read_document(alloc: Global, bytes: &[u8]) -> Result<Parsed, Status>
+fn read_document(alloc: Global, keys: RandomState, bytes: &[u8]) -> Result<Parsed, Status>
     requires { length bytes.now ≤ FILE_LIMIT }
     ensures stated { IfOk result (λ parsed. States bytes.now parsed.labels (statements parsed)) }
     ensures cause { IfErr result (IsTextCause bytes.now) }
 {
-    match read_nquads(alloc, bytes) {
+    match read_nquads(alloc, keys, bytes) {
         Ok(parsed) => Ok(parsed),
         Err(fault) => Err(refused_by_reader(fault)),
     }
 }
 
 // The dataset of a document.
-fn dataset_of_bytes(alloc: Global, bytes: &[u8]) -> Result<Dataset, Status>
+fn dataset_of_bytes(alloc: Global, keys: RandomState, bytes: &[u8]) -> Result<Dataset, Status>
     requires { length bytes.now ≤ FILE_LIMIT }
     ensures accepted { IfOk result (λ d. Accepts bytes.now (dataset d)) }
     ensures cause { IfErr result (IsTextCause bytes.now) }
 {
-    let parsed = read_document(alloc, bytes)?;
+    let parsed = read_document(alloc, keys, bytes)?;
     match Dataset::build(alloc, parsed) {
         Ok(dataset) => Ok(dataset),
         Err(NoMemory) => Err(Status::NoMemory),
@@ -80,6 +81,7 @@ fn read_file<S: Shelf>(alloc: Global, shelf: &mut S, file: &str) -> Result<Vec<u
 // The whole output of the command. It is written where the bytes of the file were.
 fn output_of<S: Shelf>(
     alloc: Global,
+    keys: RandomState,
     task: Task,
     shelf: &mut S,
     file: &str,
@@ -88,7 +90,7 @@ fn output_of<S: Shelf>(
     ensures stops { IfErr result (Stops (seen S.told S.faults shelf.old shelf.new file.now)) }
 {
     let bytes = read_file(alloc, shelf, file)?;
-    let dataset = dataset_of_bytes(alloc, &bytes)?;
+    let dataset = dataset_of_bytes(alloc, keys, &bytes)?;
     match text_of(alloc, task, bytes, &dataset) {
         Ok(text) => Ok(text),
         Err(FormFault::EqualHashes) => Err(refused(Cause::EqualHashes)),
@@ -98,13 +100,14 @@ fn output_of<S: Shelf>(
 
 fn execute<S: Shelf, K: Sink>(
     alloc: Global,
+    keys: RandomState,
     command: Command<'_>,
     shelf: &mut S,
     out: &mut K,
 ) -> Status
     ensures { Answers K.taken K.faults command.entry.task (seen S.told S.faults shelf.old shelf.new command.entry.file.now) out.old out.new result }
 {
-    let text = match output_of(alloc, command.task, shelf, command.file) {
+    let text = match output_of(alloc, keys, command.task, shelf, command.file) {
         Ok(text) => text,
         Err(status) => return status,
     };
@@ -115,9 +118,11 @@ fn execute<S: Shelf, K: Sink>(
 }
 
 /// Does what the words after the program's name say. The whole text is ready before the first of it is put on `out`.
-/// What happens on `notes` changes no answer.
+/// What happens on `notes` changes no answer, and neither do the keys, which are those of the hashes of all tables that
+/// are looked up by what a file states.
 pub fn run<S: Shelf, K: Sink, N: Sink>(
     alloc: Global,
+    keys: RandomState,
     words: &[String],
     shelf: &mut S,
     out: &mut K,
@@ -138,7 +143,7 @@ pub fn run<S: Shelf, K: Sink, N: Sink>(
             Status::Usage
         }
         Some(command) => {
-            let status = execute(alloc, command, shelf, out);
+            let status = execute(alloc, keys, command, shelf, out);
             put_note(notes, status, command.file);
             status
         }
