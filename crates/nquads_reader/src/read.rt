@@ -55,11 +55,7 @@ fn read_lines(alloc: Global, keys: RandomState, bytes: &[u8]) -> Result<Draft, R
 /// A line ends at LF, at CR LF or at a CR alone. A label names one node in the whole document, and
 /// nodes are numbered from 0 by their first mention, in a line as subject, object and graph name.
 /// The keys are those of the tables' hashes; no answer depends on them.
-pub fn read_nquads(
-    alloc: Global,
-    keys: RandomState,
-    bytes: &[u8],
-) -> Result<Parsed, ReadFault>
+pub fn read_nquads(alloc: Global, keys: RandomState, bytes: &[u8]) -> Result<Parsed, ReadFault>
     requires { length bytes.now ≤ 4294967295 }
     ensures ok { IfOk result (λ parsed. IsNQuads bytes.now parsed.labels (statements parsed)) }
     ensures within { IfOk result (λ parsed. length (statements parsed) ≤ MAX_QUADS) }

@@ -65,10 +65,7 @@ fn count_new(quads: &IndexSet<Quad, RandomState>, numbered: &[Quad]) -> usize {
 ///
 /// To count them, each is looked for. Here no look waits for the one before it, so that the memory
 /// of many is fetched at a time, and when the quads are inserted it is at hand.
-fn make_room(
-    quads: &mut IndexSet<Quad, RandomState>,
-    numbered: &[Quad],
-) -> Result<(), NoMemory>
+fn make_room(quads: &mut IndexSet<Quad, RandomState>, numbered: &[Quad]) -> Result<(), NoMemory>
     ensures { quads.new.keys ≡ quads.old.keys }
 {
     let count = count_new(quads, numbered);

@@ -54,11 +54,7 @@ impl TermTable {
     }
 
     /// An empty table with room for so many terms.
-    pub fn with_capacity(
-        alloc: Global,
-        keys: RandomState,
-        terms: usize,
-    ) -> Result<Self, NoMemory>
+    pub fn with_capacity(alloc: Global, keys: RandomState, terms: usize) -> Result<Self, NoMemory>
         ensures { IfOk result (λ table. table ≡ []) }
     {
         Ok(TermTable {

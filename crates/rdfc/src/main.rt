@@ -4,12 +4,14 @@
 use outside::{FileShelf, StdSink};
 use rdfc_cli::run;
 use std::env;
+use std::hash::RandomState;
 use std::io::ErrorKind;
 use std::process::ExitCode;
 
 // Words that the system refuses are no command. Where memory was refused for them, that is said.
 const NO_COMMAND: u8 = 2;
 
+// Also where the system gives no random bytes.
 const NO_MEMORY: u8 = 8;
 
 fn main(rt: HostRuntime) -> ExitCode {
@@ -24,9 +26,12 @@ fn main(rt: HostRuntime) -> ExitCode {
             return ExitCode::from(NO_MEMORY);
         }
     }
+    let Ok(keys) = RandomState::new(&rt) else {
+        return ExitCode::from(NO_MEMORY);
+    };
     let mut shelf = FileShelf::new(&rt);
     let mut out = StdSink::new(rt.stdout());
     let mut notes = StdSink::new(rt.stderr());
-    let status = run(rt.alloc(), &words, &mut shelf, &mut out, &mut notes);
+    let status = run(rt.alloc(), keys, &words, &mut shelf, &mut out, &mut notes);
     ExitCode::from(status.code())
 }

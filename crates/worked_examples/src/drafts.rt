@@ -5,6 +5,7 @@ ghost use Rattle.rdf_terms.specs.Terms.{IsIri, IsValidTerm, IsValidStatement};
 
 use rdf_terms::{Draft, Label, NoMemory, Parsed, Term, TermTable, TermText};
 use std::alloc::Global;
+use std::hash::RandomState;
 use std::test::Fail;
 
 fn iri(alloc: Global) -> Result<Term, NoMemory>
@@ -44,8 +45,8 @@ fn add_node(draft: &mut Draft, alloc: Global, node: u32) -> Result<bool, Fail>
 }
 
 // Whether a quad is new at first and again, and how many quads there are then.
-fn add_twice(alloc: Global) -> Result<(bool, bool, u64), Fail> {
-    let mut draft = Draft::new(alloc);
+fn add_twice(alloc: Global, keys: RandomState) -> Result<(bool, bool, u64), Fail> {
+    let mut draft = Draft::new(alloc, keys);
     let first = add_iris(&mut draft, alloc)?;
     let again = add_iris(&mut draft, alloc)?;
     Ok((first, again, draft.quad_count()))
@@ -53,7 +54,10 @@ fn add_twice(alloc: Global) -> Result<(bool, bool, u64), Fail> {
 
 #[test]
 fn a_quad_is_new_once(rt: HostRuntime) -> Result<(), Fail> {
-    assert_eq!(rt; add_twice(rt.alloc())?, (true, false, 1));
+    assert_eq!(rt;
+        add_twice(rt.alloc(), RandomState::new(&rt)?)?,
+        (true, false, 1)
+    );
     Ok(())
 }
 
@@ -68,8 +72,8 @@ fn node_of(draft: &mut Draft, alloc: Global, name: &str) -> Result<u32, Fail>
 }
 
 // The document in which only the second of two nodes stands in a quad.
-fn second_of_two(alloc: Global) -> Result<Parsed, Fail> {
-    let mut draft = Draft::new(alloc);
+fn second_of_two(alloc: Global, keys: RandomState) -> Result<Parsed, Fail> {
+    let mut draft = Draft::new(alloc, keys);
     node_of(&mut draft, alloc, "a")?;
     let second = node_of(&mut draft, alloc, "b")?;
     add_node(&mut draft, alloc, second)?;
@@ -98,14 +102,14 @@ fn has_one_node(parsed: &Parsed, name: &str) -> bool {
     labels.len() == 1 && is_named(labels.first(), name) && first_subject(parsed) == Some(0)
 }
 
-fn keeps_the_second(alloc: Global) -> Result<bool, Fail> {
-    let parsed = second_of_two(alloc)?;
+fn keeps_the_second(alloc: Global, keys: RandomState) -> Result<bool, Fail> {
+    let parsed = second_of_two(alloc, keys)?;
     Ok(has_one_node(&parsed, "b"))
 }
 
 #[test]
 fn a_node_in_no_quad_is_dropped(rt: HostRuntime) -> Result<(), Fail> {
-    assert!(rt; keeps_the_second(rt.alloc())?);
+    assert!(rt; keeps_the_second(rt.alloc(), RandomState::new(&rt)?)?);
     Ok(())
 }
 
@@ -116,8 +120,8 @@ fn intern(terms: &mut TermTable, term: Term) -> Result<u32, Fail> {
     Ok(terms.intern(term)?)
 }
 
-fn numbers_of_three(alloc: Global) -> Result<(u32, u32, u32), Fail> {
-    let mut terms = TermTable::new(alloc);
+fn numbers_of_three(alloc: Global, keys: RandomState) -> Result<(u32, u32, u32), Fail> {
+    let mut terms = TermTable::new(alloc, keys);
     let first = intern(&mut terms, iri(alloc)?)?;
     let second = intern(&mut terms, Term::Blank(0))?;
     let again = intern(&mut terms, iri(alloc)?)?;
@@ -126,6 +130,9 @@ fn numbers_of_three(alloc: Global) -> Result<(u32, u32, u32), Fail> {
 
 #[test]
 fn a_term_keeps_its_number(rt: HostRuntime) -> Result<(), Fail> {
-    assert_eq!(rt; numbers_of_three(rt.alloc())?, (0, 1, 0));
+    assert_eq!(rt;
+        numbers_of_three(rt.alloc(), RandomState::new(&rt)?)?,
+        (0, 1, 0)
+    );
     Ok(())
 }

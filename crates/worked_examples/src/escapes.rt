@@ -4,6 +4,7 @@
 use canonical_writer::{NumberNames, push_line, write_sorted};
 use rdf_terms::{Bytes, Literal, LiteralKind, NoMemory, Quad, Term, TermTable, TermText};
 use std::alloc::Global;
+use std::hash::RandomState;
 use std::process::Abort;
 use std::test::Fail;
 
@@ -18,8 +19,8 @@ fn number_of(terms: &mut TermTable, term: Term) -> Result<u32, NoMemory> {
 
 // The line of a quad with this object; nothing if a term has no number.
 #[tactic(auto, using(canonical_writer::proofs::NamedNodes::has_numbered_names))]
-fn line_of(alloc: Global, object: Literal) -> Result<Vec<u8>, NoMemory> {
-    let mut terms = TermTable::new(alloc);
+fn line_of(alloc: Global, keys: RandomState, object: Literal) -> Result<Vec<u8>, NoMemory> {
+    let mut terms = TermTable::new(alloc, keys);
     let s = number_of(&mut terms, Term::Iri(TermText::copy(alloc, "http://e/s")?))?;
     let p = number_of(&mut terms, Term::Iri(TermText::copy(alloc, "http://e/p")?))?;
     let o = number_of(&mut terms, Term::Literal(object))?;
@@ -47,11 +48,12 @@ fn assert_line(rt: &impl Abort, line: &[u8], want: &[u8], shown: &str) {
 fn expect_line(
     rt: &impl Abort,
     alloc: Global,
+    keys: RandomState,
     object: Literal,
     want: &str,
     shown: &str,
 ) -> Result<(), Fail> {
-    let line = line_of(alloc, object)?;
+    let line = line_of(alloc, keys, object)?;
     assert_line(rt, &line, want.as_bytes(), shown);
     Ok(())
 }
@@ -59,11 +61,19 @@ fn expect_line(
 fn expect_escaped(
     rt: &impl Abort,
     alloc: Global,
+    keys: RandomState,
     lexical: &str,
     written: &str,
 ) -> Result<(), Fail> {
     let want = format!(in alloc; "<http://e/s> <http://e/p> \"{written}\" .\n")?;
-    expect_line(rt, alloc, typed(alloc, lexical, STRING)?, &want, lexical)
+    expect_line(
+        rt,
+        alloc,
+        keys,
+        typed(alloc, lexical, STRING)?,
+        &want,
+        lexical,
+    )
 }
 
 #[test]
@@ -111,8 +121,9 @@ fn a_string_is_written_with_its_escapes(rt: HostRuntime) -> Result<(), Fail> {
         ("one\ttwo\nthree", "one\\ttwo\\nthree"),
         ("", ""),
     ];
+    let keys = RandomState::new(&rt)?;
     for (lexical, written) in table {
-        expect_escaped(&rt, rt.alloc(), lexical, written)?;
+        expect_escaped(&rt, rt.alloc(), keys, lexical, written)?;
     }
     Ok(())
 }
@@ -127,18 +138,19 @@ fn tagged(alloc: Global, lexical: &str, tag: &str) -> Result<Literal, NoMemory> 
 #[test]
 fn a_datatype_and_a_tag_are_written_behind_the_string(rt: HostRuntime) -> Result<(), Fail> {
     let alloc = rt.alloc();
+    let keys = RandomState::new(&rt)?;
     let typed = typed(alloc, "1", "http://e/t")?;
     let want = "<http://e/s> <http://e/p> \"1\"^^<http://e/t> .\n";
-    expect_line(&rt, alloc, typed, want, "1")?;
+    expect_line(&rt, alloc, keys, typed, want, "1")?;
     let tagged = tagged(alloc, "ja", "de-CH")?;
     let want = "<http://e/s> <http://e/p> \"ja\"@de-CH .\n";
-    expect_line(&rt, alloc, tagged, want, "ja")
+    expect_line(&rt, alloc, keys, tagged, want, "ja")
 }
 
 // The text of two quads, of which the second comes first; nothing if a term has no number.
 #[tactic(auto, using(canonical_writer::proofs::NamedNodes::has_numbered_names))]
-fn text_of_two(alloc: Global) -> Result<Bytes, NoMemory> {
-    let mut terms = TermTable::new(alloc);
+fn text_of_two(alloc: Global, keys: RandomState) -> Result<Bytes, NoMemory> {
+    let mut terms = TermTable::new(alloc, keys);
     let b = number_of(&mut terms, Term::Iri(TermText::copy(alloc, "e:b")?))?;
     let a = number_of(&mut terms, Term::Iri(TermText::copy(alloc, "e:a")?))?;
     let first = Quad {
@@ -160,14 +172,14 @@ fn text_of_two(alloc: Global) -> Result<Bytes, NoMemory> {
     }
 }
 
-fn is_text_of_two(alloc: Global, want: &str) -> Result<bool, NoMemory> {
-    let text = text_of_two(alloc)?;
+fn is_text_of_two(alloc: Global, keys: RandomState, want: &str) -> Result<bool, NoMemory> {
+    let text = text_of_two(alloc, keys)?;
     Ok(text.as_slice() == want.as_bytes())
 }
 
 #[test]
 fn lines_are_written_in_byte_order(rt: HostRuntime) -> Result<(), Fail> {
     let want = "<e:a> <e:b> <e:b> .\n<e:b> <e:b> <e:a> .\n";
-    assert!(rt; is_text_of_two(rt.alloc(), want)?);
+    assert!(rt; is_text_of_two(rt.alloc(), RandomState::new(&rt)?, want)?);
     Ok(())
 }

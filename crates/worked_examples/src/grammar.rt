@@ -3,21 +3,22 @@
 use nquads_reader::{ReadFault, read_nquads};
 use rdf_terms::{Label, LiteralKind, Parsed, Term};
 use std::alloc::Global;
+use std::hash::RandomState;
 use std::process::Abort;
 use std::test::Fail;
 
 // Tests ask the functions below and hold no document themselves: an assertion where one is at hand
 // costs the prover minutes.
-fn read(alloc: Global, bytes: &[u8]) -> Result<Result<Parsed, ReadFault>, Fail> {
+fn read(alloc: Global, keys: RandomState, bytes: &[u8]) -> Result<Result<Parsed, ReadFault>, Fail> {
     if bytes.len() > 1000 {
         return Err(Fail::from("a text is too long for this table"));
     }
-    Ok(read_nquads(alloc, bytes))
+    Ok(read_nquads(alloc, keys, bytes))
 }
 
 // Why the bytes are not read, if they are not.
-fn fault_of(alloc: Global, bytes: &[u8]) -> Result<Option<ReadFault>, Fail> {
-    match read(alloc, bytes)? {
+fn fault_of(alloc: Global, keys: RandomState, bytes: &[u8]) -> Result<Option<ReadFault>, Fail> {
+    match read(alloc, keys, bytes)? {
         Ok(_) => Ok(None),
         Err(fault) => Ok(Some(fault)),
     }
@@ -26,21 +27,23 @@ fn fault_of(alloc: Global, bytes: &[u8]) -> Result<Option<ReadFault>, Fail> {
 fn expect(
     rt: &impl Abort,
     alloc: Global,
+    keys: RandomState,
     bytes: &[u8],
     wanted: Option<ReadFault>,
     shown: &str,
 ) -> Result<(), Fail> {
-    assert_eq!(rt; fault_of(alloc, bytes)?, wanted, "{shown:?}");
+    assert_eq!(rt; fault_of(alloc, keys, bytes)?, wanted, "{shown:?}");
     Ok(())
 }
 
 fn expect_each(
     rt: &impl Abort,
     alloc: Global,
+    keys: RandomState,
     table: &[(&str, Option<ReadFault>)],
 ) -> Result<(), Fail> {
     for (text, wanted) in table {
-        expect(rt, alloc, text.as_bytes(), *wanted, text)?;
+        expect(rt, alloc, keys, text.as_bytes(), *wanted, text)?;
     }
     Ok(())
 }
@@ -59,6 +62,7 @@ fn not_utf8(line: u64) -> Option<ReadFault> {
 
 #[test]
 fn lines_in_and_outside_the_grammar(rt: HostRuntime) -> Result<(), Fail> {
+    let keys = RandomState::new(&rt)?;
     let table = [
         ("", None),
         ("# head\r\n<e:s>\t<e:p><e:o>.# c", None),
@@ -75,11 +79,12 @@ fn lines_in_and_outside_the_grammar(rt: HostRuntime) -> Result<(), Fail> {
         ("\u{feff}<e:s> <e:p> <e:o> .", bad(1)),
         ("# \0\n<e:s> <e:p> <e:o> .", None),
     ];
-    expect_each(&rt, rt.alloc(), &table)
+    expect_each(&rt, rt.alloc(), keys, &table)
 }
 
 #[test]
 fn escapes_name_characters(rt: HostRuntime) -> Result<(), Fail> {
+    let keys = RandomState::new(&rt)?;
     let table = [
         ("<e:\\u0020> <e:p> <e:o> .", bad(1)),
         ("<e:s> <e:p> <x:\\u00E9> .", None),
@@ -93,11 +98,12 @@ fn escapes_name_characters(rt: HostRuntime) -> Result<(), Fail> {
         ("<e:s> <e:p> \"\\t\\b\\n\\r\\f\\\"\\'\\\\\" .", None),
         ("<e:s> <e:p> \"a\nb\" .", bad(1)),
     ];
-    expect_each(&rt, rt.alloc(), &table)
+    expect_each(&rt, rt.alloc(), keys, &table)
 }
 
 #[test]
 fn labels_tags_and_suffixes(rt: HostRuntime) -> Result<(), Fail> {
+    let keys = RandomState::new(&rt)?;
     let table = [
         ("_:a:b <e:p> _:a.", None),
         ("_:a:b <e:p> _:a. .", bad(1)),
@@ -114,11 +120,12 @@ fn labels_tags_and_suffixes(rt: HostRuntime) -> Result<(), Fail> {
         ("<e:s> <e:p> \"x\"^^_:t .", bad(1)),
         ("<e:s> <e:p> \"x\"^^<t> .", relative(1)),
     ];
-    expect_each(&rt, rt.alloc(), &table)
+    expect_each(&rt, rt.alloc(), keys, &table)
 }
 
 #[test]
 fn the_first_faulty_line_is_named(rt: HostRuntime) -> Result<(), Fail> {
+    let keys = RandomState::new(&rt)?;
     let table = [
         ("<e:s> <e:p> <e:o> .", None),
         (
@@ -141,9 +148,9 @@ fn the_first_faulty_line_is_named(rt: HostRuntime) -> Result<(), Fail> {
         (b"x\n# \xff\n", bad(1), "one behind a faulty line"),
     ];
     for (bytes, wanted, shown) in bytes {
-        expect(&rt, rt.alloc(), bytes, wanted, shown)?;
+        expect(&rt, rt.alloc(), keys, bytes, wanted, shown)?;
     }
-    expect_each(&rt, rt.alloc(), &table)
+    expect_each(&rt, rt.alloc(), keys, &table)
 }
 
 // The lexical form of the object of the first quad, and whether it has a language tag.
@@ -162,8 +169,13 @@ fn first_literal(parsed: &Parsed) -> Option<(&str, bool)> {
 }
 
 // Whether the bytes are read, and the first object is this literal.
-fn has_literal(alloc: Global, bytes: &[u8], literal: (&str, bool)) -> Result<bool, Fail> {
-    match read(alloc, bytes)? {
+fn has_literal(
+    alloc: Global,
+    keys: RandomState,
+    bytes: &[u8],
+    literal: (&str, bool),
+) -> Result<bool, Fail> {
+    match read(alloc, keys, bytes)? {
         Ok(parsed) => match first_literal(&parsed) {
             Some((lexical, tagged)) => Ok(lexical == literal.0 && tagged == literal.1),
             None => Ok(false),
@@ -174,6 +186,7 @@ fn has_literal(alloc: Global, bytes: &[u8], literal: (&str, bool)) -> Result<boo
 
 #[test]
 fn strings_are_read_by_their_characters(rt: HostRuntime) -> Result<(), Fail> {
+    let keys = RandomState::new(&rt)?;
     let table = [
         (
             "<e:s> <e:p> \"a\\tb\\u0041\\u007f\\u000B\\\"\" .\n",
@@ -183,7 +196,7 @@ fn strings_are_read_by_their_characters(rt: HostRuntime) -> Result<(), Fail> {
     ];
     for (text, literal) in table {
         assert!(rt;
-            has_literal(rt.alloc(), text.as_bytes(), literal)?,
+            has_literal(rt.alloc(), keys, text.as_bytes(), literal)?,
             "{text}"
         );
     }
@@ -201,8 +214,14 @@ fn are_named(labels: &[Label], names: &[&str]) -> bool {
 }
 
 // Whether the bytes are read, to so many quads and to nodes of these names.
-fn has_nodes(alloc: Global, bytes: &[u8], quads: usize, names: &[&str]) -> Result<bool, Fail> {
-    match read(alloc, bytes)? {
+fn has_nodes(
+    alloc: Global,
+    keys: RandomState,
+    bytes: &[u8],
+    quads: usize,
+    names: &[&str],
+) -> Result<bool, Fail> {
+    match read(alloc, keys, bytes)? {
         Ok(parsed) => Ok(parsed.quads().len() == quads && are_named(parsed.labels(), names)),
         Err(_) => Ok(false),
     }
@@ -210,8 +229,9 @@ fn has_nodes(alloc: Global, bytes: &[u8], quads: usize, names: &[&str]) -> Resul
 
 #[test]
 fn nodes_are_numbered_by_first_mention(rt: HostRuntime) -> Result<(), Fail> {
+    let keys = RandomState::new(&rt)?;
     let text = "_:a:b <e:p> _:a.\n_:a <e:p> _:b _:c .\n_:a:b <e:p> _:a .\n";
     let names = ["a:b", "a", "b", "c"];
-    assert!(rt; has_nodes(rt.alloc(), text.as_bytes(), 2, &names)?);
+    assert!(rt; has_nodes(rt.alloc(), keys, text.as_bytes(), 2, &names)?);
     Ok(())
 }

@@ -8,6 +8,7 @@ use dataset_index::Dataset;
 use first_degree::FirstTable;
 use nquads_reader::read_nquads;
 use std::alloc::Global;
+use std::hash::RandomState;
 use std::test::Fail;
 
 const UNIQUE_HASHES: &str = "<http://example.com/#p> <http://example.com/#q> _:e0 .
@@ -17,10 +18,10 @@ _:e1 <http://example.com/#t> <http://example.com/#u> .
 ";
 
 // The table of a document, if it is read.
-fn table_of(alloc: Global, text: &str) -> Result<Option<FirstTable>, Fail>
+fn table_of(alloc: Global, keys: RandomState, text: &str) -> Result<Option<FirstTable>, Fail>
     requires { length text.now ≤ 1000 }
 {
-    let Ok(parsed) = read_nquads(alloc, text.as_bytes()) else {
+    let Ok(parsed) = read_nquads(alloc, keys, text.as_bytes()) else {
         return Ok(None);
     };
     let dataset = Dataset::build(alloc, parsed)?;
@@ -33,7 +34,7 @@ fn is_written(hash: &HexHash, text: &str) -> bool {
 
 #[test]
 fn nodes_with_different_quads_have_the_standards_hashes(rt: HostRuntime) -> Result<(), Fail> {
-    let table = table_of(rt.alloc(), UNIQUE_HASHES)?;
+    let table = table_of(rt.alloc(), RandomState::new(&rt)?, UNIQUE_HASHES)?;
     let hashes = match &table {
         Some(table) => table.all(),
         None => &[],

@@ -2,6 +2,7 @@
 use outside::{MemShelf, MemSink};
 use rdfc_cli::{Cause, Refusal, Status, run};
 use std::alloc::Global;
+use std::hash::RandomState;
 use std::process::Abort;
 use std::test::Fail;
 
@@ -48,7 +49,7 @@ fn sink(alloc: Global, failing: &[u64]) -> Result<MemSink, Fail> {
     Ok(MemSink::new(alloc, ROOM, 10, failing.to_vec(alloc)?)?)
 }
 
-fn outcome_of(alloc: Global, case: &Case<'_>) -> Result<Ended, Fail> {
+fn outcome_of(alloc: Global, keys: RandomState, case: &Case<'_>) -> Result<Ended, Fail> {
     let mut files = Vec::new(alloc);
     let bytes = case.text.as_bytes().to_vec(alloc)?;
     files.push((String::from_str(alloc, "f")?, bytes))?;
@@ -59,7 +60,7 @@ fn outcome_of(alloc: Global, case: &Case<'_>) -> Result<Ended, Fail> {
     }
     let mut out = sink(alloc, case.out)?;
     let mut notes = sink(alloc, case.notes)?;
-    let status = run(alloc, &words, &mut shelf, &mut out, &mut notes);
+    let status = run(alloc, keys, &words, &mut shelf, &mut out, &mut notes);
     Ok(Ended { status, out, notes })
 }
 
@@ -93,8 +94,14 @@ fn assert_ended(rt: &impl Abort, ended: &Ended, want: Ending<'_>, text: &str) {
     assert_eq!(rt; ended.notes.bytes(), want.notes.as_bytes(), "{text}");
 }
 
-fn expect(rt: &impl Abort, alloc: Global, case: &Case<'_>, want: Ending<'_>) -> Result<(), Fail> {
-    let ended = outcome_of(alloc, case)?;
+fn expect(
+    rt: &impl Abort,
+    alloc: Global,
+    keys: RandomState,
+    case: &Case<'_>,
+    want: Ending<'_>,
+) -> Result<(), Fail> {
+    let ended = outcome_of(alloc, keys, case)?;
     assert_ended(rt, &ended, want, case.text);
     Ok(())
 }
@@ -115,6 +122,7 @@ fn refused(cause: Cause) -> Status {
 
 #[test]
 fn canon_writes_each_line_once_and_in_order(rt: HostRuntime) -> Result<(), Fail> {
+    let keys = RandomState::new(&rt)?;
     let cases = [
         ("", ""),
         (
@@ -143,22 +151,24 @@ fn canon_writes_each_line_once_and_in_order(rt: HostRuntime) -> Result<(), Fail>
         (DIFFERENT, NAMED),
     ];
     for (text, want) in cases {
-        expect(&rt, rt.alloc(), &canon(text), done(want))?;
+        expect(&rt, rt.alloc(), keys, &canon(text), done(want))?;
     }
     Ok(())
 }
 
 #[test]
 fn hash_writes_the_digest_of_the_canonical_text(rt: HostRuntime) -> Result<(), Fail> {
+    let keys = RandomState::new(&rt)?;
     let case = Case {
         words: &["hash", "f"],
         ..canon("")
     };
-    expect(&rt, rt.alloc(), &case, done(HASH_OF_NOTHING))
+    expect(&rt, rt.alloc(), keys, &case, done(HASH_OF_NOTHING))
 }
 
 #[test]
 fn what_is_not_done_is_noted_and_nothing_is_written(rt: HostRuntime) -> Result<(), Fail> {
+    let keys = RandomState::new(&rt)?;
     let wrong = "rdfc: the words are not a command\n";
     let cases: [(&[&str], &str, &[u64], Status, &str); 11] = [
         (&[], "", &[], Status::Usage, wrong),
@@ -211,13 +221,14 @@ fn what_is_not_done_is_noted_and_nothing_is_written(rt: HostRuntime) -> Result<(
             out: &[],
             notes: &[],
         };
-        expect(&rt, rt.alloc(), &case, nothing_written(status, note))?;
+        expect(&rt, rt.alloc(), keys, &case, nothing_written(status, note))?;
     }
     Ok(())
 }
 
 #[test]
 fn a_read_that_fails_is_never_the_end_of_the_file(rt: HostRuntime) -> Result<(), Fail> {
+    let keys = RandomState::new(&rt)?;
     // Twelve bytes in pieces of seven: the start, two pieces, and the call that finds the end.
     let want = nothing_written(Status::ReadFault { file: 0 }, "rdfc: f: read failed\n");
     for call in 0..4 {
@@ -225,13 +236,14 @@ fn a_read_that_fails_is_never_the_end_of_the_file(rt: HostRuntime) -> Result<(),
             shelf: &[call],
             ..canon("# no quad\n\n\n")
         };
-        expect(&rt, rt.alloc(), &case, want)?;
+        expect(&rt, rt.alloc(), keys, &case, want)?;
     }
     Ok(())
 }
 
 #[test]
 fn a_write_that_fails_leaves_a_front_of_the_text(rt: HostRuntime) -> Result<(), Fail> {
+    let keys = RandomState::new(&rt)?;
     let case = Case {
         out: &[1],
         ..canon("<http://e/a> <http://e/p> <http://e/o> .\n")
@@ -241,25 +253,27 @@ fn a_write_that_fails_leaves_a_front_of_the_text(rt: HostRuntime) -> Result<(), 
         out: "<http://e/",
         notes: "rdfc: write failed\n",
     };
-    expect(&rt, rt.alloc(), &case, want)
+    expect(&rt, rt.alloc(), keys, &case, want)
 }
 
 #[test]
 fn a_note_that_fails_changes_no_status(rt: HostRuntime) -> Result<(), Fail> {
+    let keys = RandomState::new(&rt)?;
     let case = Case {
         notes: &[1],
         ..canon("no line")
     };
     let want = nothing_written(refused(Cause::BadLine { line: 1 }), "rdfc: ");
-    expect(&rt, rt.alloc(), &case, want)
+    expect(&rt, rt.alloc(), keys, &case, want)
 }
 
 // Where an allocation of the run is refused, it ends with `NoMemory` and an untouched output.
 // `tools/fail-alloc --test` refuses each in turn, and reads the status that is printed.
 #[test]
 fn want_of_memory_writes_nothing(rt: HostRuntime) -> Result<(), Fail> {
+    let keys = RandomState::new(&rt)?;
     let text = "_:x <e:p> \"v\" _:x .";
-    let ended = outcome_of(rt.alloc(), &canon(text))?;
+    let ended = outcome_of(rt.alloc(), keys, &canon(text))?;
     let want = match ended.status {
         Status::NoMemory => nothing_written(Status::NoMemory, "rdfc: out of memory\n"),
         _ => done("_:c14n0 <e:p> \"v\" _:c14n0 .\n"),
