@@ -8,3 +8,4 @@ pub mod Placing
 pub mod SubjectOrder
 pub mod HeldNodes
 pub mod Building
+pub mod QuadPlaces

@@ -1,7 +1,8 @@
 use Rattle.std.proofs.Common.{[], ◌∷◌, ◌++◌, map, get_or, sym, ap, ◌∙◌}
 use Rattle.std.proofs.lemmas.List.{map_more, take_all}
 use Rattle.first_degree.specs.FirstHashes.{line_at}
-use Rattle.first_degree.proofs.Places.{lines_at_places, place_of_quad}
+use Rattle.dataset_index.proofs.QuadPlaces.{place_of_quad}
+use Rattle.first_degree.proofs.Places.{lines_at_places}
 use Rattle.first_degree.proofs.node_hash.write_lines.Goals as goal
 
 pub push_line_at-requires : goal.push_line_at-requires

@@ -4,7 +4,8 @@ use Rattle.rdf_terms.specs.Document.{dataset as dataset_of}
 use Rattle.canon_model.specs.Meaning.{meaning}
 use Rattle.canon_model.specs.FirstDegree.{hash_first_degree_quads}
 use Rattle.dataset_index.proofs.Numbers.{length-numbers_below}
-use Rattle.first_degree.proofs.Places.{length_map, values_more}
+use Rattle.std.proofs.lemmas.List.{length-map}
+use Rattle.first_degree.proofs.Places.{values_more}
 use Rattle.first_degree.proofs.table.FirstTable.build.Goals as goal
 
 pub loop-node-preserved : goal.loop-node-preserved
@@ -21,5 +22,5 @@ pub returns-clause-count : goal.returns-clause-count
 returns-clause-count c =
     let e : c.loop-node.node ≡ c.node_count-nodes.result = omega arith in
     ap length c.loop-node.invariant
-    ∙ (length_map (hash_first_degree_quads (meaning c.args.profile) (dataset_of c.args.dataset.now)) (numbers_below c.loop-node.node)
+    ∙ (length-map (numbers_below c.loop-node.node) (hash_first_degree_quads (meaning c.args.profile) (dataset_of c.args.dataset.now))
     ∙ (length-numbers_below c.loop-node.node ∙ (e ∙ c.node_count-nodes.ensures.count)))
