@@ -1,4 +1,4 @@
-ghost use Rattle.std.specs.Prelude.{◌≡◌, ◌<◌, ◌≤◌, [], take, length, All, IfOk, OnOk, OnErr};
+ghost use Rattle.std.specs.Prelude.{◌≡◌, ◌<◌, ◌≤◌, ◌++◌, [], take, length, All, IfOk, OnOk, OnErr};
 ghost use Rattle.rdf_terms.specs.Lists.{AreDistinct};
 ghost use Rattle.rdf_terms.specs.CanonicalForm.{place_of};
 ghost use Rattle.id_issuer.specs.IssuedList.{list_with};
@@ -72,6 +72,20 @@ impl Issuer {
     {
         let (place, _) = self.nodes.insert_full(node)?;
         Ok(place as u32)
+    }
+
+    /// Issues identifiers for nodes that have none yet, in their order. After an `Err` it may have
+    /// issued for the first of them.
+    pub fn issue_each(&mut self, nodes: &[u32]) -> Result<(), NoMemory>
+        requires nodes { All (λ n. n < u32.MAX) nodes.now }
+        requires new { AreDistinct (self.old.list ++ nodes.now) }
+        ensures list { OnOk result (self.new.list ≡ self.old.list ++ nodes.now) }
+        ensures prefix { self.new.prefix ≡ self.old.prefix }
+    {
+        for node in nodes {
+            self.issue(*node)?;
+        }
+        Ok(())
     }
 
     /// The place of the node's identifier, counted from 0.
