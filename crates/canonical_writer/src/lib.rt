@@ -4,7 +4,7 @@
 pub use line::push_line;
 pub use lines::Lines;
 pub use list_names::ListNames;
-pub use names::{DegreeNames, Names, NumberNames};
+pub use names::{DegreeNames, Names, NumberNames, push_numbered};
 pub use sorted::{write_sorted, write_sorted_in};
 
 mod escape;

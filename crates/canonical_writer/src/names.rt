@@ -56,7 +56,7 @@ fn append_numbered(out: &mut Vec<u8>, prefix: &[u8], number: u32) -> Result<(), 
 }
 
 /// Appends a prefix and the numeral of a number. After an `Err` the bytes are as before.
-pub(crate) fn push_numbered(out: &mut Vec<u8>, prefix: &[u8], number: u32) -> Result<(), NoMemory>
+pub fn push_numbered(out: &mut Vec<u8>, prefix: &[u8], number: u32) -> Result<(), NoMemory>
     ensures ok { OnOk result (out.new.items ≡ out.old.items ++ (prefix.now ++ numeral number)) }
     ensures err { OnErr result (out.new.items ≡ out.old.items) }
 {
