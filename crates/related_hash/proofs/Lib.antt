@@ -1,0 +1,5 @@
+pub mod Labels
+mod Inputs
+pub mod QuadEntries
+mod NodesOnce
+mod SortedGroups
