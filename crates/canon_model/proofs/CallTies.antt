@@ -107,9 +107,9 @@ module _ (ρ : Hashing) (D : Dataset) (c : List ℕ) (nodes : MentionsNodes D) (
 
       tied_paths : (p q : List ℕ) → Permutes bag p → Permutes bag q → ((r : List ℕ) → Permutes bag r → is_before (path r) (path p) ≡ false) → path p ≡ path q → AreTiedPaths ρ D c i (issuer p) (issuer q)
       tied_paths p q a b least same = record {
-        passed_is = some;
+        some_passed = some;
         node = n;
-        passed = passed;
+        call_issuer = passed;
         hash = h;
         begun = begun;
         paths = record { path = path; issuer = issuer; walks = walks };

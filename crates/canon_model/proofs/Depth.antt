@@ -5,7 +5,6 @@ use Rattle.rdf_terms.specs.Dataset.{Dataset}
 use Rattle.rdf_terms.specs.Lists.{In, Text}
 use Rattle.canon_model.specs.Arrangements.{arrangements}
 use Rattle.canon_model.specs.CountedRun.{Chosen, Counted, CountedCall, Outcome, after, choose, chosen_text, counted_call, counted_call_within, counted_groups, counted_permutation, counted_permutations, counted_recursion, followed_by, is_skipped, issuer_or, logged, nothing, one_unit, path_or_none, skips, ties_of_chosen}
-use Rattle.canon_model.specs.Coverage.{Covers}
 use Rattle.canon_model.specs.Groups.{groups}
 use Rattle.canon_model.specs.Issuer.{is_issued}
 use Rattle.canon_model.specs.Laws.{DepthDoesNotMatter}
@@ -14,7 +13,7 @@ use Rattle.canon_model.specs.Hashing.{Hashing}
 use Rattle.canon_model.specs.Walk.{CallRelation, PermutationPath, RecursionResults, issuer_copy_after, path_of_identifiers, path_of_result, recursion_list}
 use Rattle.canon_model.proofs.Arrangements.{from_In-arrangements}
 use Rattle.canon_model.proofs.CountedGrows.{counted_call-grows}
-use Rattle.canon_model.proofs.Coverage.{AllCover, from_In-recursion_list, issuer_copy_after-issued, n_degree_within-covers, permutation_path-coverage}
+use Rattle.canon_model.proofs.Coverage.{AllCover, Reaches, from_In-recursion_list, issuer_copy_after-issued, n_degree_within-covers, permutation_path-reaches}
 use Rattle.canon_model.proofs.Issuers.{is_issued-begins, is_issued-from_In}
 use Rattle.canon_model.proofs.OutcomesGrow.{AllGrow, chosen_path-grows, n_degree_within-grows}
 use Rattle.canon_model.proofs.Pigeonhole.{are_once-length}
@@ -68,7 +67,7 @@ module _ (ρ : Hashing) (D : Dataset) (c : List ℕ) (nodes : MentionsNodes D) w
     fits_chosen : (bg i : List ℕ) (π : Text) (j : List ℕ) → Fits ρ D c nodes (suc k) i → ((x : ℕ) → In x bg → x < D.nodes) → ChosenPath R c bg i π j → Fits ρ D c nodes (suc k) j
     fits_chosen bg i π j f low w = fits_after_path ρ D c nodes (suc k) i w.chosen j (λ x a. low x (In-Permutes x (Permutes-sym w.is_least.permutes) a))
         (chosen_path-grows c R grows bg i π j f.distinct w)
-        (subst (Covers D c i (λ y. In y w.chosen)) (sym w.issuer_is) (permutation_path-coverage D c R cover i w.chosen (w.paths.path w.chosen) (w.paths.issuer w.chosen) (w.paths.walks w.chosen w.is_least.permutes))) f
+        (subst (Reaches D c i (λ y. In y w.chosen)) (sym w.issuer_is) (permutation_path-reaches D c R cover i w.chosen (w.paths.path w.chosen) (w.paths.issuer w.chosen) (w.paths.walks w.chosen w.is_least.permutes))) f
 
     pub data_to_hash-more : (b : Text → List ℕ) → ((h : Text) (x : ℕ) → In x (b h) → x < D.nodes) → (hs : List Text) (i : List ℕ) (s : Text) (j : List ℕ) → Fits ρ D c nodes (suc k) i → DataToHash R c b hs i s j → DataToHash S c b hs i s j
     data_to_hash-more b low [] i s j f w = w

@@ -80,7 +80,7 @@ module _ (ρ : Hashing) (D : Dataset) (valid : IsValid D) (c : List ℕ) (left r
 
   tied : AreTiedResults ρ D c [] left.issuer right.issuer
   tied = record {
-    passed_is = refl;
+    none_passed = refl;
     left_start = left.start;
     right_start = right.start;
     hash = left.hash;

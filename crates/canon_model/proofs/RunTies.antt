@@ -35,7 +35,7 @@ module _ (ρ : Hashing) (D : Dataset) (valid : IsValid D) where
 
     pair-tied : (x y : ℕ) → In x (unissued_nodes ρ D c h) → In y (unissued_nodes ρ D c h) → (result_of ρ D c x).hash ≡ (result_of ρ D c y).hash → AreTiedResults ρ D c [] (result_of ρ D c x).issuer (result_of ρ D c y).issuer
     pair-tied x y i j e = record {
-      passed_is = refl;
+      none_passed = refl;
       left_start = x;
       right_start = y;
       hash = (result_of ρ D c x).hash;

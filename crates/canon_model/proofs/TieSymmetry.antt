@@ -5,22 +5,22 @@ use Rattle.rdf_terms.specs.CanonicalForm.{after_first, place_of}
 use Rattle.rdf_terms.specs.Dataset.{Dataset, IsValid}
 use Rattle.rdf_terms.specs.Isomorphism.{Symmetry}
 use Rattle.rdf_terms.specs.Lists.{AreDistinct, In}
-use Rattle.canon_model.specs.Coverage.{Covers, Reached, ShareQuad, onward}
+use Rattle.canon_model.specs.Coverage.{Reached, ShareQuad, onward}
 use Rattle.canon_model.specs.Issuer.{is_issued}
 use Rattle.canon_model.specs.Laws.{IsGlued, IsPart}
 use Rattle.canon_model.specs.Hashing.{Hashing}
 use Rattle.canon_model.specs.Ties.{AreTied, IsJoined, MayBeExchanged, exchange, node_at}
 use Rattle.canon_model.specs.TieSymmetry.{IsCarried, JoinedWhereSymmetric}
-use Rattle.canon_model.proofs.Coverage.{coverage}
+use Rattle.canon_model.proofs.Coverage.{Reaches, walk-reaches}
 use Rattle.canon_model.proofs.Exchange.{node_at-next}
 use Rattle.canon_model.proofs.ExchangeSymmetry.{append_split, place_of-outside}
 use Rattle.canon_model.proofs.Gluing.{gluing}
-use Rattle.canon_model.proofs.Issuers.{In-from_is_issued, are_once_from_distinct, is_issued-from_In, is_issued-from_not_In, map_fixed, not_In-from_is_issued}
+use Rattle.canon_model.proofs.Issuers.{In-from_is_issued, are_once-apart, are_once_from_distinct, is_issued-from_In, is_issued-from_not_In, map_fixed, not_In-from_is_issued}
 use Rattle.canon_model.proofs.LocalSymmetry.{are_quads}
 use Rattle.canon_model.proofs.Maps.{length-map, map-append, map-map, map_identity}
 use Rattle.canon_model.proofs.OutcomeComponents.{component_of_outcome}
 use Rattle.canon_model.proofs.Symmetries.{Linked, joined-linked}
-use Rattle.canon_model.proofs.TiedLists.{are_once-apart, tied_may_be_exchanged}
+use Rattle.canon_model.proofs.TiedLists.{tied_may_be_exchanged}
 use Rattle.canon_model.proofs.Totality.{mentions_nodes}
 
 -- ---- the exchange of a list for its image
@@ -129,8 +129,8 @@ module _ (D : Dataset) (valid : IsValid D) (c i l m : List ℕ) (e : MayBeExchan
 
 -- ---- tied outcomes are closed
 
-covers-closed : (D : Dataset) (c i : List ℕ) (S : ℕ → Type 0) (j : List ℕ) → Covers D c i S j → IsClosedBehind D c i j
-covers-closed D c i S j v x y h n q f = from ((v.nodes x).0 h) (is_issued y i) refl
+reaches-closed : (D : Dataset) (c i : List ℕ) (S : ℕ → Type 0) (j : List ℕ) → Reaches D c i S j → IsClosedBehind D c i j
+reaches-closed D c i S j v x y h n q f = from ((v.nodes x).0 h) (is_issued y i) refl
   where
     from : In x i ⊎ Reached D c i S x → (t : Bool) → is_issued y i ≡ t → In y j
     from (inl a) t k = absurd (n a)
@@ -142,7 +142,7 @@ tied-closed ρ D valid c i l m (inl t) x y h n q f =
     let k = component_of_outcome ρ D (mentions_nodes D valid) (are_quads D valid) c t.left_start t.hash l t.left_outcome in
     In-from_is_issued y l (k.closed x (is_issued-from_In x l h) (k.free x (is_issued-from_In x l h)) y q f)
 tied-closed ρ D valid c i l m (inr t) x y h n q f =
-    let w : IsClosedBehind D c i (t.paths.issuer t.first) = covers-closed D c i (λ z. In z t.first) (t.paths.issuer t.first) (coverage ρ D c i t.first (t.paths.path t.first) (t.paths.issuer t.first) (t.paths.walks t.first t.first_is_least.permutes)) in
+    let w : IsClosedBehind D c i (t.paths.issuer t.first) = reaches-closed D c i (λ z. In z t.first) (t.paths.issuer t.first) (walk-reaches ρ D c i t.first (t.paths.path t.first) (t.paths.issuer t.first) (t.paths.walks t.first t.first_is_least.permutes)) in
     subst (In y) (sym t.left_is) (w x y (subst (In x) t.left_is h) n q f)
 
 -- ---- the law

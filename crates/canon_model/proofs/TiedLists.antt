@@ -1,29 +1,24 @@
 -- The lists of tied outcomes may be exchanged: what holds of them follows from how they came about.
-use Rattle.std.proofs.Common.{List, [], arith, inl, inr, refl, subst, suc, sym, ℕ, ◌++◌, ◌<◌, ◌∷◌, ◌⊎◌}
+use Rattle.std.proofs.Common.{List, [], arith, inl, inr, refl, subst, suc, sym, ℕ, ◌<◌, ◌∷◌, ◌⊎◌}
 use Rattle.rdf_terms.proofs.Membership.{In-append, In-append_right}
 use Rattle.rdf_terms.proofs.Permutations.{In-Permutes, Permutes-sym}
 use Rattle.rdf_terms.specs.Dataset.{Dataset}
 use Rattle.rdf_terms.specs.Lists.{In, Permutes, Text}
-use Rattle.canon_model.specs.Coverage.{BeginsWith, Covers, Reached, begin, onward}
+use Rattle.canon_model.specs.Coverage.{BeginsWith, Reached, begin, onward}
 use Rattle.canon_model.specs.Groups.{groups}
 use Rattle.canon_model.specs.Outcome.{DataToHash, HashNDegreeQuads, PathsOfPermutations}
 use Rattle.canon_model.specs.Hashing.{Hashing}
 use Rattle.canon_model.specs.TieSymmetry.{TiedMayBeExchanged}
 use Rattle.canon_model.specs.Ties.{AreTiedPaths, AreTiedResults, MayBeExchanged}
 use Rattle.canon_model.proofs.Components.{IsComponent, components-tails}
-use Rattle.canon_model.proofs.Coverage.{coverage}
-use Rattle.canon_model.proofs.Issuers.{AreOnce, are_distinct_from_once, is_issued-from_In, not_In-from_is_issued}
+use Rattle.canon_model.proofs.Coverage.{Reaches, walk-reaches}
+use Rattle.canon_model.proofs.Issuers.{AreOnce, are_distinct_from_once, are_once-apart, is_issued-from_In, not_In-from_is_issued}
 use Rattle.canon_model.proofs.LocalSymmetry.{AreQuads, are_quads}
 use Rattle.canon_model.proofs.OutcomeComponents.{component_of_outcome}
 use Rattle.canon_model.proofs.OutcomesGrow.{AllGrow, n_degree_within-grows, permutation_path-grows}
 use Rattle.canon_model.proofs.Totality.{Fits, MentionsNodes, fits_after_path, fits_valid_call, mentions_nodes, nodes_of_groups}
 
 -- ---- the tails of two lists with the same nodes
-
-pub are_once-apart : (xs ys : List ℕ) → AreOnce (xs ++ ys) → (x : ℕ) → In x xs → ¬ (In x ys)
-are_once-apart [] ys d x h g = h
-are_once-apart (y ∷ xs) ys d x (inl e) g = not_In-from_is_issued y (xs ++ ys) d.0 (In-append_right xs ys y (subst (λ w. In w ys) e g))
-are_once-apart (y ∷ xs) ys d x (inr h) g = are_once-apart xs ys d.1 x h g
 
 in_other_tail : (i l m : List ℕ) (p : BeginsWith i l) (q : BeginsWith i m) → AreOnce l → ((x : ℕ) → In x l → In x m) → (x : ℕ) → In x p.tail → In x q.tail
 in_other_tail i l m p q d sub x h = by (In-append i q.tail x (subst (In x) q.is (sub x (subst (In x) (sym p.is) (In-append_right i p.tail x h)))))
@@ -39,12 +34,12 @@ module _ (ρ : Hashing) (D : Dataset) (c : List ℕ) (nodes : MentionsNodes D) w
   outcomes_grow m k h j d w = n_degree_within-grows c ρ D (suc D.nodes) m k h j d w.outcome
 
   module _ (k : ℕ) (bag i : List ℕ) (low : (x : ℕ) → In x bag → x < D.nodes) (f : Fits ρ D c nodes k i) (w : PathsOfPermutations (HashNDegreeQuads ρ D c) c bag i) where
-    covers : (p : List ℕ) → Permutes bag p → Covers D c i (λ y. In y p) (w.issuer p)
-    covers p q = coverage ρ D c i p (w.path p) (w.issuer p) (w.walks p q)
+    reaches : (p : List ℕ) → Permutes bag p → Reaches D c i (λ y. In y p) (w.issuer p)
+    reaches p q = walk-reaches ρ D c i p (w.path p) (w.issuer p) (w.walks p q)
 
     pub fits_issuer : (p : List ℕ) → Permutes bag p → Fits ρ D c nodes k (w.issuer p)
     fits_issuer p q = fits_after_path ρ D c nodes k i p (w.issuer p) (λ x a. low x (In-Permutes x (Permutes-sym q) a))
-        (permutation_path-grows c (HashNDegreeQuads ρ D c) outcomes_grow i p (w.path p) (w.issuer p) f.distinct (w.walks p q)) (covers p q) f
+        (permutation_path-grows c (HashNDegreeQuads ρ D c) outcomes_grow i p (w.path p) (w.issuer p) f.distinct (w.walks p q)) (reaches p q) f
 
     reach : (p q : List ℕ) → ((y : ℕ) → In y p → In y q) → {x : ℕ} → Reached D c i (λ y. In y p) x → Reached D c i (λ y. In y q) x
     reach p q sub (begin {x = x} a u v) = begin (sub x a) u v
@@ -52,7 +47,7 @@ module _ (ρ : Hashing) (D : Dataset) (c : List ℕ) (nodes : MentionsNodes D) w
 
     -- two permutations of one list are covered alike
     pub covered_alike : (p q : List ℕ) → Permutes bag p → Permutes bag q → (x : ℕ) → In x (w.issuer p) → In x (w.issuer q)
-    covered_alike p q a b x h = ((covers q b).nodes x).1 (over (((covers p a).nodes x).0 h))
+    covered_alike p q a b x h = ((reaches q b).nodes x).1 (over (((reaches p a).nodes x).0 h))
       where
         over : In x i ⊎ Reached D c i (λ y. In y p) x → In x i ⊎ Reached D c i (λ y. In y q) x
         over (inl u) = inl u
@@ -66,13 +61,13 @@ module _ (ρ : Hashing) (D : Dataset) (c : List ℕ) (nodes : MentionsNodes D) w
       right_once = are_distinct_from_once (w.issuer q) (fits_issuer q b).distinct;
       left_apart = λ x h. not_In-from_is_issued x c ((fits_issuer p a).apart x (is_issued-from_In x (w.issuer p) h));
       right_apart = λ x h. not_In-from_is_issued x c ((fits_issuer q b).apart x (is_issued-from_In x (w.issuer q) h));
-      left_tail = (covers p a).begins.tail;
-      right_tail = (covers q b).begins.tail;
-      left_is = (covers p a).begins.is;
-      right_is = (covers q b).begins.is;
+      left_tail = (reaches p a).begins.tail;
+      right_tail = (reaches q b).begins.tail;
+      left_is = (reaches p a).begins.is;
+      right_is = (reaches q b).begins.is;
       tails = inl (λ x. (
-        in_other_tail i (w.issuer p) (w.issuer q) (covers p a).begins (covers q b).begins (fits_issuer p a).distinct (covered_alike p q a b) x,
-        in_other_tail i (w.issuer q) (w.issuer p) (covers q b).begins (covers p a).begins (fits_issuer q b).distinct (covered_alike q p b a) x,
+        in_other_tail i (w.issuer p) (w.issuer q) (reaches p a).begins (reaches q b).begins (fits_issuer p a).distinct (covered_alike p q a b) x,
+        in_other_tail i (w.issuer q) (w.issuer p) (reaches q b).begins (reaches p a).begins (fits_issuer q b).distinct (covered_alike q p b a) x,
       ));
     }
 
@@ -84,17 +79,17 @@ module _ (ρ : Hashing) (D : Dataset) (c : List ℕ) (nodes : MentionsNodes D) w
 
   tied_paths-exchanged : (i l m : List ℕ) → AreTiedPaths ρ D c i l m → MayBeExchanged D c i l m
   tied_paths-exchanged i l m t =
-      let bag = (groups ρ D c t.passed t.node).nodes in
-      let low = nodes_of_groups ρ D c nodes t.passed t.node in
-      let start : Fits ρ D c nodes (suc D.nodes) t.passed = fits_valid_call ρ D c nodes (suc D.nodes) t.node t.passed t.begun.call (omega arith) in
-      let f : Fits ρ D c nodes (suc D.nodes) i = fits_data_to_hash (suc D.nodes) bag low t.begun.before t.passed t.begun.text i start t.begun.begun in
+      let bag = (groups ρ D c t.call_issuer t.node).nodes in
+      let low = nodes_of_groups ρ D c nodes t.call_issuer t.node in
+      let start : Fits ρ D c nodes (suc D.nodes) t.call_issuer = fits_valid_call ρ D c nodes (suc D.nodes) t.node t.call_issuer t.begun.call (omega arith) in
+      let f : Fits ρ D c nodes (suc D.nodes) i = fits_data_to_hash (suc D.nodes) bag low t.begun.before t.call_issuer t.begun.text i start t.begun.begun in
       subst (λ v. MayBeExchanged D c i v m) (sym t.left_is) (subst (MayBeExchanged D c i (t.paths.issuer t.first)) (sym t.right_is)
       (permutations-exchanged (suc D.nodes) (bag t.hash) i (low t.hash) f t.paths t.first t.other t.first_is_least.permutes t.other_permutes))
 
 -- ---- two results
 
 pub tied_results-exchanged : (ρ : Hashing) (D : Dataset) (nodes : MentionsNodes D) (quads : AreQuads D) (c i l m : List ℕ) → AreTiedResults ρ D c i l m → MayBeExchanged D c i l m
-tied_results-exchanged ρ D nodes quads c i l m t = subst (λ k. MayBeExchanged D c k l m) (sym t.passed_is) (record {
+tied_results-exchanged ρ D nodes quads c i l m t = subst (λ k. MayBeExchanged D c k l m) (sym t.none_passed) (record {
   left_nodes = λ z a. p.below z (is_issued-from_In z l a);
   right_nodes = λ z a. q.below z (is_issued-from_In z m a);
   left_once = are_distinct_from_once l p.distinct;

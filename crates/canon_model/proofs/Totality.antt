@@ -9,7 +9,7 @@ use Rattle.rdf_terms.specs.declared.term.Term.{Term}
 use Rattle.rdf_terms.specs.declared.term.Term.TheVariants.{Blank, Iri, Literal}
 use Rattle.canon_model.specs.Arrangements.{arrangements}
 use Rattle.canon_model.specs.CountedRun.{counted_call, counted_call_within, counted_groups, counted_permutations, issuer_or, path_or_none}
-use Rattle.canon_model.specs.Coverage.{Covers, Reached, ShareQuad, begin, onward}
+use Rattle.canon_model.specs.Coverage.{Reached, ShareQuad, begin, onward}
 use Rattle.canon_model.specs.Groups.{groups}
 use Rattle.canon_model.specs.Issuer.{IsValidCall, is_issued}
 use Rattle.canon_model.specs.Laws.{CountedCallIsOutcome, TotalityOfCalls}
@@ -18,7 +18,7 @@ use Rattle.canon_model.specs.Hashing.{Hashing}
 use Rattle.canon_model.specs.Walk.{CallRelation, RecursionResults, issuer_copy_after, recursion_list}
 use Rattle.canon_model.proofs.CountedGrows.{counted_call-grows, counted_permutations-grows}
 use Rattle.canon_model.proofs.CountedPaths.{chosen_path-counted, counted_permutations-kept, full_issuer, full_path, none_kept}
-use Rattle.canon_model.proofs.Coverage.{AllCover, CallCovers, from_In-recursion_list, issuer_copy_after-issued, issuer_copy_after-new, n_degree_within-covers, permutation_path-coverage, reached_free}
+use Rattle.canon_model.proofs.Coverage.{AllCover, CallCovers, Reaches, from_In-recursion_list, issuer_copy_after-issued, issuer_copy_after-new, n_degree_within-covers, permutation_path-reaches, reached_free}
 use Rattle.canon_model.proofs.Issuers.{AreOnce, Grows, In-from_is_issued, are_once_from_distinct, begins_refl, is_issued-begins, is_issued-from_In, is_issued-from_not_In, issuer_copy_after-grows, not_In-from_is_issued}
 use Rattle.canon_model.proofs.Neighbours.{from_In-blank_node_list}
 use Rattle.canon_model.proofs.Pigeonhole.{are_once-length, begins-length, begins-length_new}
@@ -62,7 +62,7 @@ module _ (ρ : Hashing) (D : Dataset) (c : List ℕ) (nodes : MentionsNodes D) w
   pub fits_after_call : (k m : ℕ) (i j : List ℕ) → Grows i j → CallCovers D c m i j → Fits k i → Fits k j
   fits_after_call k m i j g o f = fits_more k i (ShareQuad D m) j (share_below m) g o.step.sound f
 
-  pub fits_after_path : (k : ℕ) (i p j : List ℕ) → ((x : ℕ) → In x p → x < D.nodes) → Grows i j → Covers D c i (λ y. In y p) j → Fits k i → Fits k j
+  pub fits_after_path : (k : ℕ) (i p j : List ℕ) → ((x : ℕ) → In x p → x < D.nodes) → Grows i j → Reaches D c i (λ y. In y p) j → Fits k i → Fits k j
   fits_after_path k i p j low g cov f = fits_more k i (λ y. In y p) j low g sound f
     where
       sound : (x : ℕ) → is_issued x j ≡ true → is_issued x i ≡ false → Reached D c i (λ y. In y p) x
@@ -133,7 +133,7 @@ module _ (ρ : Hashing) (D : Dataset) (c : List ℕ) (nodes : MentionsNodes D) w
         let w = group-counted bg i f low in
         fits_after_path (suc k) i w.chosen j (λ x a. low x (In-Permutes x (Permutes-sym w.is_least.permutes) a))
         (counted_permutations-grows c (counted_call_within k ρ D c) (counted_call-grows D c ρ k) None i (arrangements bg) f.distinct (begins_refl i, f.distinct))
-        (subst (Covers D c i (λ y. In y w.chosen)) (sym w.issuer_is) (permutation_path-coverage D c S cover i w.chosen (w.paths.path w.chosen) (w.paths.issuer w.chosen) (w.paths.walks w.chosen w.is_least.permutes))) f
+        (subst (Reaches D c i (λ y. In y w.chosen)) (sym w.issuer_is) (permutation_path-reaches D c S cover i w.chosen (w.paths.path w.chosen) (w.paths.issuer w.chosen) (w.paths.walks w.chosen w.is_least.permutes))) f
 
     pub data_to_hash-counted : (b : Text → List ℕ) → ((h : Text) (x : ℕ) → In x (b h) → x < D.nodes) → (hs : List Text) (i : List ℕ) → Fits (suc k) i
         → DataToHash S c b hs i (counted_groups (counted_call_within k ρ D c) c b hs i).value.text (counted_groups (counted_call_within k ρ D c) c b hs i).value.issuer

@@ -52,14 +52,14 @@ data_to_hash-append R c nodes (h ∷ hs) gs i s k t j v w = record {
 
 module _ (ρ : Hashing) (D : Dataset) (valid : IsValid D) (c i l m : List ℕ) (t : AreTiedPaths ρ D c i l m) where
   abbrev bag : Text → List ℕ
-  bag = (groups ρ D c t.passed t.node).nodes
+  bag = (groups ρ D c t.call_issuer t.node).nodes
 
   low : (h : Text) (x : ℕ) → In x (bag h) → x < D.nodes
-  low = nodes_of_groups ρ D c (mentions_nodes D valid) t.passed t.node
+  low = nodes_of_groups ρ D c (mentions_nodes D valid) t.call_issuer t.node
 
   begun : Fits ρ D c (mentions_nodes D valid) (suc (suc D.nodes)) i
-  begun = fits_data_to_hash ρ D c (mentions_nodes D valid) (suc (suc D.nodes)) bag low t.begun.before t.passed t.begun.text i
-      (fits_valid_call ρ D c (mentions_nodes D valid) (suc (suc D.nodes)) t.node t.passed t.begun.call (omega arith)) t.begun.begun
+  begun = fits_data_to_hash ρ D c (mentions_nodes D valid) (suc (suc D.nodes)) bag low t.begun.before t.call_issuer t.begun.text i
+      (fits_valid_call ρ D c (mentions_nodes D valid) (suc (suc D.nodes)) t.node t.call_issuer t.begun.call (omega arith)) t.begun.begun
 
   canonical : AreCanonical D c
   canonical = record { once = are_once_from_distinct c t.begun.call.canonical_once; below = λ x h. t.begun.call.canonical_nodes x (In-from_is_issued x c h) }
@@ -68,7 +68,7 @@ module _ (ρ : Hashing) (D : Dataset) (valid : IsValid D) (c i l m : List ℕ) (
   record Ended (j : List ℕ) : Type 0 where
     hash : Text
     issuer : List ℕ
-    outcome : HashNDegreeQuads ρ D c t.node t.passed hash issuer
+    outcome : HashNDegreeQuads ρ D c t.node t.call_issuer hash issuer
     begins : BeginsWith j issuer
 
   ended : (path : Text) (j : List ℕ) → ChosenPath (HashNDegreeQuads ρ D c) c (bag t.hash) i path j → Ended j
@@ -78,14 +78,14 @@ module _ (ρ : Hashing) (D : Dataset) (valid : IsValid D) (c i l m : List ℕ) (
       let end = (counted_groups (counted_call_within (suc D.nodes) ρ D c) c bag t.begun.behind j).value in
       let rest = data_to_hash-counted ρ D c (mentions_nodes D valid) (suc D.nodes) (HashNDegreeQuads ρ D c) (hash_n_degree_quads-covers D c ρ) (outcome-counted ρ D c (mentions_nodes D valid) canonical (suc D.nodes)) bag low t.begun.behind j f in
       let group : DataToHash (HashNDegreeQuads ρ D c) c bag (t.hash ∷ t.begun.behind) i (t.hash ++ path ++ end.text) end.issuer = record { path = path; issuer = j; rest = end.text; chosen_path = w; following = rest; text_is = refl } in
-      let all = data_to_hash-append (HashNDegreeQuads ρ D c) c bag t.begun.before (t.hash ∷ t.begun.behind) t.passed t.begun.text i (t.hash ++ path ++ end.text) end.issuer t.begun.begun group in
+      let all = data_to_hash-append (HashNDegreeQuads ρ D c) c bag t.begun.before (t.hash ∷ t.begun.behind) t.call_issuer t.begun.text i (t.hash ++ path ++ end.text) end.issuer t.begun.begun group in
       let text = t.begun.text ++ (t.hash ++ path ++ end.text) in
       record {
         hash = ρ.hash text;
         issuer = end.issuer;
-        outcome = (outcomes_of_outcomes ρ D c t.node t.passed valid t.begun.call (ρ.hash text) end.issuer).0 (record {
+        outcome = (outcomes_of_outcomes ρ D c t.node t.call_issuer valid t.begun.call (ρ.hash text) end.issuer).0 (record {
           text = text;
-          data_to_hash = subst (λ hs. DataToHash (HashNDegreeQuads ρ D c) c bag hs t.passed text end.issuer) (sym t.begun.hashes_are) all;
+          data_to_hash = subst (λ hs. DataToHash (HashNDegreeQuads ρ D c) c bag hs t.call_issuer text end.issuer) (sym t.begun.hashes_are) all;
           hash_is = refl;
         });
         begins = (data_to_hash-grows c (HashNDegreeQuads ρ D c) (outcomes_grow ρ D c (mentions_nodes D valid)) bag t.begun.behind j end.text end.issuer f.distinct rest).0;
@@ -133,7 +133,7 @@ module _ (ρ : Hashing) (D : Dataset) (valid : IsValid D) (c i l m : List ℕ) (
       right_is = right_is;
     })
 
-  two_outcomes : ¬ (IsJoined D c l m) → HasTwoOutcomes ρ D c t.node t.passed
+  two_outcomes : ¬ (IsJoined D c l m) → HasTwoOutcomes ρ D c t.node t.call_issuer
   two_outcomes n = record {
     first_hash = left_ended.hash;
     first = left_ended.issuer;

@@ -1,4 +1,4 @@
--- A dataset is its set of quads: nothing that is counted depends on the order of its list.
+-- A dataset is its set of quads (RDF 1.1 Concepts, section 4): nothing that is counted depends on the order of its list.
 use Rattle.std.specs.Prelude.{◌≡◌}
 use Rattle.rdf_terms.specs.Lists.{Permutes}
 use Rattle.rdf_terms.specs.Dataset.{Dataset}

@@ -1,4 +1,4 @@
--- Hash N-Degree Quads in its own words: no depth of calls is in these laws.
+-- Hash N-Degree Quads (RDF Dataset Canonicalization, section 4.8) in its own words: no depth of calls is in these laws.
 use Rattle.std.specs.Prelude.{◌≡◌, ◌↔◌, ℕ, ◌<◌, List, length}
 use Rattle.rdf_terms.specs.Lists.{Text}
 use Rattle.rdf_terms.specs.Dataset.{Dataset, IsValid}

@@ -19,4 +19,4 @@ pub record HasTwoOutcomes (ρ : Hashing) (D : Dataset) (c : List ℕ) (n : ℕ) 
 
 -- where two tied permutations of a call's group are not joined, the call has two such outcomes
 abbrev pub UnjoinedGivesTwoOutcomes : Type 0
-UnjoinedGivesTwoOutcomes = (ρ : Hashing) (D : Dataset) → IsValid D → (c i left right : List ℕ) (t : AreTiedPaths ρ D c i left right) → ¬ (IsJoined D c left right) → HasTwoOutcomes ρ D c t.node t.passed
+UnjoinedGivesTwoOutcomes = (ρ : Hashing) (D : Dataset) → IsValid D → (c i left right : List ℕ) (t : AreTiedPaths ρ D c i left right) → ¬ (IsJoined D c left right) → HasTwoOutcomes ρ D c t.node t.call_issuer
