@@ -1,0 +1,13 @@
+pub mod Traces
+pub mod Unfolding
+pub mod Behind
+pub mod Opening
+pub mod Agreeing
+pub mod Walking
+pub mod Leading
+pub mod Logging
+pub mod Running
+pub mod Keeping
+pub mod Closing
+pub mod Calling
+pub mod Labels

@@ -1,0 +1,11 @@
+pub mod Agreement
+pub mod PathChoice
+pub mod Bags
+pub mod Resume
+pub mod Behind
+pub mod Walks
+pub mod Frames
+pub mod Spending
+pub mod Log
+pub mod Closing
+pub mod Call
