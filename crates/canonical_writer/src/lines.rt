@@ -70,7 +70,7 @@ impl Lines {
         self.lengths.clear();
     }
 
-    /// Adds the canonical line of a quad.
+    /// Adds the canonical line of a quad. After an `Err` the lines are as before.
     pub fn push<N: Names>(
         &mut self,
         terms: &TermTable,
@@ -79,7 +79,8 @@ impl Lines {
     ) -> Result<(), NoMemory>
         requires in_range { IsInRange terms.now quad }
         requires named { HasNames (N.name names.now) (statement terms.now quad) }
-        ensures { OnOk result (self.new ≡ self.old ++ canonical_line (naming_of (N.name names.now)) (statement terms.now quad) ∷ []) }
+        ensures pushed { OnOk result (self.new ≡ self.old ++ canonical_line (naming_of (N.name names.now)) (statement terms.now quad) ∷ []) }
+        ensures err { OnErr result (self.new ≡ self.old) }
     {
         let before = self.text.len();
         push_line(&mut self.text, terms, quad, names)?;

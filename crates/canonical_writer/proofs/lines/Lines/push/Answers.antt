@@ -6,8 +6,8 @@ use Rattle.canonical_writer.specs.Pieces.{pieces}
 use Rattle.canonical_writer.proofs.Pieces.{line_added, both}
 use Rattle.canonical_writer.proofs.lines.Lines.push.Goals as goal
 
-pub returns : goal.returns
-returns g c =
+pub returns-clause-pushed : goal.returns-clause-pushed
+returns-clause-pushed g c =
     both c.note_length.result
     (λ noted kept.
     ap (λ t. pieces t c.note_length.new.lengths.items) kept
