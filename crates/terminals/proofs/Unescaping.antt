@@ -1,11 +1,11 @@
 -- How the value of spelled characters is written.
-use Rattle.std.proofs.Common.{◌≡◌, ℕ, Bool, false, List, [], ◌∷◌, ◌++◌, refl, sym, ap, subst, ◌∙◌, inl, inr}
+use Rattle.std.proofs.Common.{◌≡◌, ℕ, Bool, false, List, [], ◌∷◌, ◌++◌, refl, sym, ap, subst, ◌∙◌, inl, inr, Result, Ok, Err, OnErr}
 use Rattle.std.specs.Prelude.{encode_utf8, encode_utf8_all}
 use Rattle.std.proofs.lemmas.List.{append_assoc, append-nil, append_cancel_left}
 use Rattle.std.proofs.lemmas.Str.{encodes-append, encodes_same}
 use Rattle.terminals.specs.declared.bodies.Body.{Body}
 use Rattle.terminals.specs.Escapes.{BeginsWithOne, BeginsWithNoOne}
-use Rattle.terminals.specs.Spellings.{IsEscape, SpellsOne, Spells, SpellsNone, TextSpells}
+use Rattle.terminals.specs.Spellings.{IsEscape, SpellsOne, Spells, SpellsNone, TextSpells, IsFrontOf}
 use Rattle.terminals.proofs.Unique.{same_one, spells-append, spells_escape, escape_front}
 use Rattle.terminals.proofs.Running.{Ran, escape_behind, ran_ends}
 
@@ -78,3 +78,20 @@ left_end body whole rest stop written front next h ran no_escape none is now lef
     none_left : (more : List ℕ) → Spells body ran.behind more → more ≡ []
     none_left [] s = refl
     none_left (c ∷ cs) (f, m, p, one, ones) = absurd (ends f c m p one)
+
+-- ---- what is written so far is a front of the value
+
+pub front_at_stop : {T E : Type 0} (r : Result T E) (body : Body) (whole rest written now : List ℕ) → now ≡ written → Left body whole rest written
+    → (value : List ℕ) → TextSpells body whole value → OnErr r (IsFrontOf now value)
+front_at_stop (Ok t) body whole rest written now same left value spells = tt
+front_at_stop (Err e) body whole rest written now same left value spells =
+    let before = left value spells in (before.0, before.1 ∙ ap (λ w. w ++ before.0) (sym same))
+
+-- also where the run is written, and the character of an escape is not
+pub front_at_escape : {T E : Type 0} (r : Result T E) (body : Body) (whole rest stop after written front now : List ℕ) (c : ℕ) (h : Bool) (ran : Ran body rest stop h) → h ≡ false
+    → BeginsWithOne (IsEscape body) stop c after → front ≡ encode_utf8_all ran.spelled → now ≡ written ++ front → Left body whole rest written
+    → (value : List ℕ) → TextSpells body whole value → OnErr r (IsFrontOf now value)
+front_at_escape (Ok t) body whole rest stop after written front now c h ran no_escape one is same left value spells = tt
+front_at_escape (Err e) body whole rest stop after written front now c h ran no_escape one is same left value spells =
+    let next = left_step body whole rest stop after written front ((written ++ front) ++ encode_utf8 c) c h ran no_escape one is refl left value spells in
+    (encode_utf8 c ++ next.0, next.1 ∙ append_assoc (written ++ front) (encode_utf8 c) next.0 ∙ ap (λ w. w ++ (encode_utf8 c ++ next.0)) (sym same))

@@ -62,3 +62,7 @@ pub record BeginsWithRun (body : Body) (text : Text) (spelling : Spelling) (rest
   pub spells : Spells body spelled_characters value_characters
   pub plain : spelling.has_escapes ≡ false → spelled_characters ≡ value_characters
   pub ends : SpellsNone body rest_characters
+
+-- the value begins with what was written of it
+abbrev pub IsFrontOf : Text → Text → Type 0
+IsFrontOf written value = (left : Text) × (value ≡ written ++ left)

@@ -1,6 +1,6 @@
-ghost use Rattle.std.specs.Prelude.{◌≡◌, ◌≤◌, ℕ, List, drop, length, string_bytes, OnOk};
+ghost use Rattle.std.specs.Prelude.{◌≡◌, ◌≤◌, ℕ, List, drop, length, string_bytes, OnOk, OnErr};
 ghost use Rattle.std.specs.List.{prefix_len};
-ghost use Rattle.terminals.specs.Spellings.{stands_for_itself, BeginsWithRun, TextSpells};
+ghost use Rattle.terminals.specs.Spellings.{stands_for_itself, BeginsWithRun, TextSpells, IsFrontOf};
 
 use crate::escapes::escape;
 use crate::{Body, Quote};
@@ -95,7 +95,8 @@ impl Spelling<'_> {
     /// Writes the value into `into`, in place of what it holds. After `NoMemory` it holds a front of
     /// the value.
     pub fn unescape(&self, into: &mut String) -> Result<(), NoMemory>
-        ensures { (value : List ℕ) → TextSpells self.now.body self.now.text.now value → OnOk result (string_bytes into.new ≡ value) }
+        ensures value { (value : List ℕ) → TextSpells self.now.body self.now.text.now value → OnOk result (string_bytes into.new ≡ value) }
+        ensures front { (value : List ℕ) → TextSpells self.now.body self.now.text.now value → OnErr result (IsFrontOf (string_bytes into.new) value) }
     {
         into.clear();
         let mut rest = self.text;
