@@ -1,8 +1,8 @@
 -- A term's number stays its number as the table grows.
-use Rattle.std.proofs.Common.{◌≡◌, ℕ, ◌<◌, List, Option, Some, None, IfSome, slice_get, sym, ap, ◌∙◌, map, length, get_or, arith}
-use Rattle.std.proofs.lemmas.List.{get_or-map, length-map}
+use Rattle.std.proofs.Common.{◌≡◌, ℕ, ◌<◌, List, Option, Some, None, IfSome, slice_get, sym, ap, ◌∙◌, map, length, get_or}
+use Rattle.std.proofs.lemmas.List.{get_or-map}
 use Rattle.rdf_terms.specs.Document.{Extends}
-use Rattle.rdf_terms.specs.Ends.{number_of, ends_of, known_in}
+use Rattle.rdf_terms.specs.Ends.{number_of, known_in}
 use Rattle.rdf_terms.specs.declared.term.Term.{Term}
 use Rattle.rdf_terms.specs.declared.term_ref.StatementRef.{StatementRef}
 use Rattle.rdf_terms.specs.declared.ends.KnownEnds.{KnownEnds}
@@ -22,6 +22,5 @@ known_kept ts us t (Some n) e h = kept ts us n t e h
 pub known_there : (ts us : List Term) (t : Term) (known : Option ℕ) → known ≡ number_of ts t → Extends ts us → IfSome known (λ n. slice_get us n ≡ Some t)
 known_there ts us t known h e = known_kept ts us t known e (known_now ts t known h)
 
-pub known_at : (ts : List Term) (qs : List StatementRef) (ks : List KnownEnds) (i : ℕ) (q : StatementRef) (d : KnownEnds) → ks ≡ map (known_in ts) (map ends_of qs) → i < length qs → get_or ks i d ≡ known_in ts (ends_of (get_or qs i q))
-known_at ts qs ks i q d e l =
-    ap (λ xs. get_or xs i d) e ∙ get_or-map (known_in ts) (map ends_of qs) i (ends_of q) d (omega (arith, l, length-map qs ends_of)) ∙ ap (known_in ts) (get_or-map ends_of qs i q (ends_of q) l)
+pub known_at : (ts : List Term) (qs : List StatementRef) (ks : List KnownEnds) (i : ℕ) (q : StatementRef) (d : KnownEnds) → ks ≡ map (known_in ts) qs → i < length qs → get_or ks i d ≡ known_in ts (get_or qs i q)
+known_at ts qs ks i q d e l = ap (λ xs. get_or xs i d) e ∙ get_or-map (known_in ts) qs i q d l

@@ -1,5 +1,6 @@
 pub mod Membership
 pub mod SameTerm
+pub mod HashedTerms
 pub mod Growing
 pub mod Adding
 pub mod AddingAll

@@ -3,14 +3,13 @@ pub mod Lists
 pub mod Numeral
 pub mod Terms
 pub mod References
-pub mod Digest
+pub mod LookupHash
 pub mod SameTerm
 pub mod ReferenceHash
 pub mod Dataset
 pub mod Isomorphism
 pub mod CanonicalForm
 pub mod Document
+pub mod HashedTerm
 pub mod Ends
-pub mod DigestedTerm
-pub mod NodeNumber
 pub mod QuadHash

@@ -5,7 +5,6 @@ ghost use Rattle.rdf_terms.specs.Dataset.{IsUsed};
 ghost use Rattle.rdf_terms.specs.Document.{statements, Adds, AddsAll, Interns, Finishes};
 ghost use Rattle.rdf_terms.specs.References.{statement_of, graph_name_of, label_of};
 
-use crate::ends::DigestedEnds;
 use crate::finish::{are_all_used, new_numbers, used_labels, used_nodes};
 use crate::numbering::{insert_all, number_all, number_terms};
 use crate::{Label, LabelRef, NoMemory, Parsed, Quad, StatementRef, Term, TermRef, TermTable};
@@ -125,7 +124,7 @@ impl Draft {
         ensures err { OnErr result (self.new ≡ self.old) }
     {
         let before = self.terms.len();
-        let known = DigestedEnds::new(&quad).find(&self.terms);
+        let known = self.terms.known_ends_of(&quad);
         let Ok(quad) = number_terms(self.alloc, &mut self.terms, quad, known) else {
             self.terms.truncate(before);
             return Err(NoMemory);

@@ -28,8 +28,8 @@ pub fn used_nodes(alloc: Global, terms: &TermTable, nodes: usize) -> Result<Vec<
         return Ok(Vec::new(alloc));
     }
     let mut used = vec![in alloc; false; nodes]?;
-    for term in terms.as_slice() {
-        mark(&mut used, term);
+    for entry in terms.entries() {
+        mark(&mut used, &entry.term);
     }
     Ok(used)
 }

@@ -14,16 +14,15 @@ pub use term_ref::{LabelRef, LiteralKindRef, LiteralRef, StatementRef, TermRef};
 pub use term_text::TermText;
 
 mod bytes;
-mod digest;
-mod digested_term;
 mod draft;
 mod ends;
 mod finish;
+mod hashed_term;
 mod inline_text;
 mod known_text;
+mod lookup_hash;
 mod memory;
 mod node_list;
-mod node_number;
 mod numbering;
 mod pair_list;
 mod parsed;

@@ -3,7 +3,7 @@ ghost use Rattle.rdf_terms.specs.Lists.{AreDistinct};
 ghost use Rattle.rdf_terms.specs.Document.{Extends, AddsAll, Numbers, NumbersAll};
 ghost use Rattle.rdf_terms.specs.References.{statement_of, term_of};
 
-use crate::ends::{KnownEnds, known_ends};
+use crate::ends::KnownEnds;
 use crate::{NoMemory, Quad, StatementRef, TermTable};
 use indexmap::IndexSet;
 use std::alloc::Global;
@@ -45,7 +45,7 @@ pub(crate) fn number_all(
     ensures numbers { IfOk result (λ numbered. NumbersAll terms.old (map statement_of quads.now) numbered.items terms.new) }
     ensures extends { Extends terms.old terms.new }
 {
-    let known = known_ends(alloc, terms, quads)?;
+    let known = terms.known_ends(alloc, quads)?;
     let mut numbered = Vec::with_capacity(alloc, quads.len())?;
     for (place, quad) in quads.iter().enumerate() {
         numbered.push(number_terms(alloc, terms, *quad, known[place])?)?;

@@ -4,12 +4,13 @@ ghost use Rattle.rdf_terms.specs.Lists.{In, AreDistinct};
 ghost use Rattle.rdf_terms.specs.Isomorphism.{relabel_term};
 ghost use Rattle.rdf_terms.specs.Document.{Interns, number_in};
 ghost use Rattle.rdf_terms.specs.References.{term_of};
-ghost use Rattle.rdf_terms.specs.Ends.{number_of};
+ghost use Rattle.rdf_terms.specs.HashedTerm.{terms_of};
+ghost use Rattle.rdf_terms.specs.Ends.{known_in};
 ghost use Rattle.rdf_terms.specs.declared.term.Term.TheVariants.{Blank};
 
-use crate::digested_term::DigestedTerm;
-use crate::node_number::NodeNumber;
-use crate::{NoMemory, Term, TermRef};
+use crate::ends::{HashedEnds, KnownEnds, find_ends};
+use crate::hashed_term::{HashedTerm, HashedTermRef};
+use crate::{NoMemory, StatementRef, Term, TermRef};
 use indexmap::IndexSet;
 use std::alloc::Global;
 use std::hash::RandomState;
@@ -18,19 +19,23 @@ use std::marker::Model;
 /// Terms by number: each term once, numbered from 0 in the order in which they came.
 #[derive(Drop)]
 pub struct TermTable {
-    terms: IndexSet<Term, RandomState>,
+    keys: RandomState,
+    // Each hash is that of its term under the keys. The hasher of the set hashes that number once
+    // more, and needs no key.
+    terms: IndexSet<HashedTerm>,
 }
 
 impl Model for TermTable {
     ghost use Rattle.std.specs.Prelude.{List, ◌^◌, ◌<◌, length};
     ghost use Rattle.rdf_terms.specs.Lists.{AreDistinct};
+    ghost use Rattle.rdf_terms.specs.HashedTerm.{terms_of, AreHashed};
     ghost use Rattle.rdf_terms.specs.declared.term.Term.{Term};
 
     ghost Value = { List Term };
 
-    ghost view = { λ t. t.terms.keys };
+    ghost view = { λ t. terms_of t.terms.keys };
 
-    ghost invariant = { λ t. (length t.terms.keys < 2 ^ 32) × AreDistinct t.terms.keys };
+    ghost invariant = { λ t. (length (terms_of t.terms.keys) < 2 ^ 32) × AreDistinct (terms_of t.terms.keys) × AreHashed t.keys t.terms.keys };
 }
 
 fn renumbered_term(term: Term, numbers: &[u32]) -> Term
@@ -49,7 +54,8 @@ impl TermTable {
         ensures { result ≡ [] }
     {
         TermTable {
-            terms: IndexSet::with_hasher(alloc, keys),
+            keys,
+            terms: IndexSet::new(alloc),
         }
     }
 
@@ -57,9 +63,8 @@ impl TermTable {
     pub fn with_capacity(alloc: Global, keys: RandomState, terms: usize) -> Result<Self, NoMemory>
         ensures { IfOk result (λ table. table ≡ []) }
     {
-        Ok(TermTable {
-            terms: IndexSet::with_capacity_and_hasher(alloc, terms, keys)?,
-        })
+        let terms = IndexSet::with_capacity(alloc, terms)?;
+        Ok(TermTable { keys, terms })
     }
 
     /// How many terms there are, which is the number that the next new one gets.
@@ -73,7 +78,7 @@ impl TermTable {
     pub fn is_empty(&self) -> bool
         ensures { IsTrue result ↔ (self.now ≡ []) }
     {
-        self.terms.is_empty()
+        self.len() == 0
     }
 
     /// The number of the term: the old one where it is there, else the next.
@@ -83,7 +88,7 @@ impl TermTable {
         ensures err { OnErr result (self.new ≡ self.old) }
         ensures distinct { AreDistinct self.new }
     {
-        let (index, _) = self.terms.insert_full(term)?;
+        let (index, _) = self.terms.insert_full(HashedTerm::new(self.keys, term))?;
         Ok(index as u32)
     }
 
@@ -94,7 +99,7 @@ impl TermTable {
         ensures err { OnErr result (self.new ≡ self.old) }
         ensures distinct { AreDistinct self.new }
     {
-        if let Some(index) = self.terms.get_index_of(term) {
+        if let Some(index) = self.terms.get_index_of(HashedTermRef::new(self.keys, term)) {
             return Ok(index as u32);
         }
         self.intern(term.to_term(alloc)?)
@@ -104,38 +109,39 @@ impl TermTable {
         ensures term { option_copied result ≡ slice_get self.now number }
         ensures found { IsSome result ↔ (number < length self.now) }
     {
-        self.terms.get_index(number as usize)
+        match self.terms.get_index(number as usize) {
+            Some(entry) => Some(&entry.term),
+            None => None,
+        }
     }
 
     pub fn find(&self, term: &Term) -> Option<u32>
         ensures found { IfSome result (λ n. slice_get self.now n ≡ Some term.now) }
         ensures none { IsNone result ↔ (¬ (In term.now self.now)) }
     {
-        let index = self.terms.get_index_of(term)?;
+        let index = self
+            .terms
+            .get_index_of(HashedTermRef::new(self.keys, term.as_ref()))?;
         Some(index as u32)
     }
 
-    // The same as `find`, of a term whose digest is at hand.
-    #[inline]
-    pub(crate) fn find_digested(&self, term: DigestedTerm<'_>) -> Option<u32>
-        ensures { result ≡ number_of self.now (term_of term.entry.term) }
+    // The numbers of the ends of the quad, where the table has them.
+    pub(crate) fn known_ends_of(&self, quad: &StatementRef<'_>) -> KnownEnds
+        ensures { result ≡ known_in self.now quad.now }
     {
-        let index = self.terms.get_index_of(term)?;
-        Some(index as u32)
+        HashedEnds::new(self.keys, quad).find(&self.terms)
     }
 
-    // Whether the node with this number has a term in the table.
-    #[inline]
-    pub(crate) fn has_node(&self, number: u64) -> bool {
-        self.terms.contains(NodeNumber(number))
-    }
-
-    // Makes room for so many more terms.
-    pub(crate) fn reserve(&mut self, terms: usize) -> Result<(), NoMemory>
-        ensures { self.new ≡ self.old }
+    // The same for each of these quads. Where the table may lack some ends, it has room for them.
+    pub(crate) fn known_ends(
+        &mut self,
+        alloc: Global,
+        quads: &[StatementRef<'_>],
+    ) -> Result<Vec<KnownEnds>, NoMemory>
+        ensures known { IfOk result (λ known. known.items ≡ map (known_in self.old) quads.now) }
+        ensures same { self.new ≡ self.old }
     {
-        self.terms.reserve(terms)?;
-        Ok(())
+        find_ends(alloc, self.keys, &mut self.terms, quads)
     }
 
     // The same as `intern`, of a term whose number is at hand where the table has had it.
@@ -143,7 +149,7 @@ impl TermTable {
         &mut self,
         alloc: Global,
         term: TermRef<'_>,
-        known: Option<u32>,
+        known: Option<usize>,
     ) -> Result<u32, NoMemory>
         requires room { length self.old < 4294967295 }
         requires known { IfSome known (λ n. slice_get self.old n ≡ Some (term_of term)) }
@@ -151,15 +157,14 @@ impl TermTable {
         ensures err { OnErr result (self.new ≡ self.old) }
     {
         match known {
-            Some(number) => Ok(number),
+            Some(number) => Ok(number as u32),
             None => self.intern(term.to_term(alloc)?),
         }
     }
 
-    /// The terms by number.
-    pub fn as_slice(&self) -> &[Term]
-        ensures terms { result.now ≡ self.now }
-        ensures distinct { AreDistinct self.now }
+    // The terms by number, with their hashes.
+    pub(crate) fn entries(&self) -> &[HashedTerm]
+        ensures { terms_of result.now ≡ self.now }
     {
         self.terms.as_slice()
     }
@@ -170,10 +175,10 @@ impl TermTable {
         requires distinct { AreDistinct (map (relabel_term (number_in numbers.now)) self) }
         ensures { IfOk result (λ t. t ≡ map (relabel_term (number_in numbers.now)) self) }
     {
-        let TermTable { terms } = self;
-        let mut fresh = TermTable::new(alloc, *terms.hasher());
-        for term in terms {
-            fresh.intern(renumbered_term(term, numbers))?;
+        let TermTable { keys, terms } = self;
+        let mut fresh = TermTable::new(alloc, keys);
+        for entry in terms {
+            fresh.intern(renumbered_term(entry.term, numbers))?;
         }
         Ok(fresh)
     }

@@ -4,11 +4,9 @@ ghost use Rattle.rdf_terms.specs.contracts.term.TermPartialEq.TheImpl.{eq-value 
 ghost use Rattle.rdf_terms.specs.contracts.term.LabelPartialEq.TheImpl.{eq-value as eq_label};
 ghost use Rattle.rdf_terms.specs.contracts.term.LiteralPartialEq.TheImpl.{eq-value as eq_literal};
 ghost use Rattle.rdf_terms.specs.contracts.term.LiteralKindPartialEq.TheImpl.{eq-value as eq_kind};
-ghost use Rattle.rdf_terms.specs.contracts.term.TermEq.TheImpl.Laws.{laws-law as term_law};
 ghost use Rattle.rdf_terms.specs.contracts.term.LabelEq.TheImpl.Laws.{laws-law as label_law};
 ghost use Rattle.rdf_terms.specs.contracts.term.LabelHash.TheImpl.Laws.{respects_eq-law as alike_labels};
 ghost use Rattle.rdf_terms.specs.ReferenceHash.{hash-label_of};
-ghost use Rattle.rdf_terms.specs.SameTerm.{terms_fed_alike};
 ghost use Rattle.std.proofs.Common.{◌∙◌};
 
 use crate::{Label, Literal, LiteralKind, NoMemory, Term, TermText};
@@ -156,16 +154,13 @@ impl LiteralRef<'_> {
     }
 }
 
-impl Equivalent<Term> for TermRef<'_> {
-    ghost equivalent = { λ q k. eq_term.it (term_of q) k };
-
-    ghost respects_hash = { λ q k h. terms_fed_alike (term_of q) k h };
-
-    ghost respects_eq = { λ q. term_law.congr (term_of q) };
-
+impl TermRef<'_> {
+    // Whether it stands for the term.
     #[inline]
-    fn equivalent(&self, key: &Term) -> bool {
-        match (self, key) {
+    pub(crate) fn is(&self, term: &Term) -> bool
+        ensures { result ≡ eq_term.it (term_of self.now) term.now }
+    {
+        match (self, term) {
             (TermRef::Iri(iri), Term::Iri(known)) => *iri == known.as_str(),
             (TermRef::Blank(node), Term::Blank(known)) => *node == *known,
             (TermRef::Literal(literal), Term::Literal(known)) => literal.is(known),

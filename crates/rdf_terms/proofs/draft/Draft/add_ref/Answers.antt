@@ -8,10 +8,10 @@ use Rattle.rdf_terms.proofs.KnownEnds.{known_now}
 use Rattle.rdf_terms.proofs.draft.Draft.add_ref.Goals as goal
 
 pub number_terms-requires-clause-subject : goal.number_terms-requires-clause-subject
-number_terms-requires-clause-subject c = known_now _ _ _ (ap (λ (k : KnownEnds). k.subject) (rw c.new.ensures at c.find-known.ensures))
+number_terms-requires-clause-subject c = known_now _ _ _ (ap (λ (k : KnownEnds). k.subject) c.known_ends_of-known.ensures)
 
 pub number_terms-requires-clause-object : goal.number_terms-requires-clause-object
-number_terms-requires-clause-object c = known_now _ _ _ (ap (λ (k : KnownEnds). k.object) (rw c.new.ensures at c.find-known.ensures))
+number_terms-requires-clause-object c = known_now _ _ _ (ap (λ (k : KnownEnds). k.object) c.known_ends_of-known.ensures)
 
 pub invariant_of-self-in-Ok-insert : goal.invariant_of-self-in-Ok-insert
 invariant_of-self-in-Ok-insert c =

@@ -1,4 +1,4 @@
-use Rattle.rdf_terms.proofs.ends.DigestedEnds.new.Goals as goal
+use Rattle.rdf_terms.proofs.ends.HashedEnds.new.Goals as goal
 
 pub returns : goal.returns
 returns c = λ i. record { subject = c.new.ensures i; object = c.new-2.ensures i }
