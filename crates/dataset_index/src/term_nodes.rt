@@ -44,10 +44,25 @@ fn node_of_number(held: u32) -> Option<u32>
     if held == NO_NODE { None } else { Some(held) }
 }
 
-fn numbers_held(alloc: Global, terms: &[Term]) -> Result<Vec<u32>, NoMemory>
+fn held_at(terms: &TermTable, number: u32) -> u32
+    requires { number < length terms.now }
+    ensures { result ≡ held_for (term_at terms.now number) }
+{
+    match terms.get(number) {
+        Some(term) => number_held(term),
+        None => NO_NODE,
+    }
+}
+
+fn numbers_held(alloc: Global, terms: &TermTable) -> Result<Vec<u32>, NoMemory>
     ensures { IfOk result (λ held. held.items ≡ map held_for terms.now) }
 {
-    Ok(terms.iter().map(|term| number_held(term)).collect(alloc)?)
+    let count = terms.len();
+    let mut held = Vec::with_capacity(alloc, count as usize)?;
+    for number in 0..count {
+        held.push(held_at(terms, number))?;
+    }
+    Ok(held)
 }
 
 impl<'a> TermNodes<'a> {
@@ -55,7 +70,7 @@ impl<'a> TermNodes<'a> {
         requires { AreNodesBelow terms.now }
         ensures { IfOk result (λ nodes. nodes ≡ terms.now) }
     {
-        let held = numbers_held(alloc, terms.as_slice())?;
+        let held = numbers_held(alloc, terms)?;
         Ok(TermNodes { terms, held })
     }
 
