@@ -62,7 +62,7 @@ module _ (ρ : Hashing) (D : Dataset) (valid : IsValid D) where
             subst (IsTie ρ D) (sym (g ∙ (λ x. record { canonical = c; passed = []; left = (a.2 x).issuer; right = (z.2 x).issuer }))) tie
         by false e u v t g = v t g
 
-    results-ties : AreTies ρ D (ties_of_results c (counted_results ρ D c h))
+    pub results-ties : AreTies ρ D (ties_of_results c (counted_results ρ D c h))
     results-ties = by (counted_results ρ D c h) (λ r g. g)
       where
         by : (rs : List HashPathResult) → ((r : HashPathResult) → In r rs → In r (counted_results ρ D c h)) → AreTies ρ D (ties_of_results c rs)
