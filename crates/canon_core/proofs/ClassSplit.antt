@@ -1,5 +1,5 @@
 -- Nodes in the order of their hashes, cut behind the class at their front.
-use Rattle.std.proofs.Common.{◌≡◌, ℕ, suc, ◌+◌, ◌<◌, true, false, cond, Bool, List, [], ◌∷◌, ◌⊎◌, map, take, drop, length, ◌-◌, ◌≤◌, slice_range, length-drop, nat_cmp, inl, inr, refl, sym, ap, ◌∙◌, subst, true≢false, arith, Ordering, Less, Equal, Greater}
+use Rattle.std.proofs.Common.{◌≡◌, ℕ, suc, ◌+◌, ◌<◌, true, false, cond, Bool, List, [], ◌∷◌, ◌⊎◌, map, take, drop, get_or, length, ◌-◌, ◌≤◌, slice_range, length-drop, nat_cmp, inl, inr, refl, sym, ap, ◌∙◌, subst, true≢false, arith, Ordering, Less, Equal, Greater}
 use Rattle.std.specs.Ordering.{is_lt, ordering_reverse, ordering_then}
 use Rattle.std.specs.Cmp.Lexicographic.{slice_cmp}
 use Rattle.std.specs.List.{prefix_len}
@@ -12,6 +12,7 @@ use Rattle.rdf_terms.specs.Lists.{In, Text, is_before, numbers_below}
 use Rattle.rdf_terms.proofs.Membership.{from_In-map, In-map}
 use Rattle.rdf_terms.proofs.Ranks.{In-filter as from_In-filter, In-numbers_below as below_from_In}
 use Rattle.rdf_terms.proofs.TextOrder.{is_before-irrefl, same_from_neither_before}
+use Rattle.canonical_writer.proofs.FrontOrder.{slice_from}
 use Rattle.canon_model.specs.Groups.{each_text_once}
 use Rattle.canon_model.proofs.IssueEach.{false_of}
 use Rattle.canon_model.proofs.Membership.{In-filter}
@@ -240,3 +241,13 @@ module _ (nodes rest : List Pair) (start n : ℕ) (l : start < length nodes) (is
 -- something is left behind a place before the end
 pub some_behind : (nodes : List Pair) (start : ℕ) → start < length nodes → 0 < length (drop start nodes)
 some_behind nodes start l = let b = length-drop start nodes in omega arith
+
+-- the first node is in its class
+pub class_len-first : (nodes : List Pair) (p : Pair) (m : ℕ) → 0 < length nodes → p ≡ get_or nodes 0 p → m ≡ prefix_len (λ q. bytes_eq q.0 p.0) (take (length nodes - 1) (drop 1 nodes)) → 1 + m ≡ prefix_len (λ q. bytes_eq q.0 (class_hash nodes)) nodes
+class_len-first [] p m l e f = absurd (omega arith)
+class_len-first (q ∷ xs) p m l e f =
+    let rest : m ≡ prefix_len (λ (r : Pair). bytes_eq r.0 q.0) xs = f ∙ (λ i. prefix_len (λ (r : Pair). bytes_eq r.0 (e i).0) (slice_from 1 (q ∷ xs) i)) in
+    ap (λ k. 1 + k) rest ∙ ap (λ t. cond t (1 + prefix_len (λ (r : Pair). bytes_eq r.0 q.0) xs) 0) (sym ((bytes_eq-Decides q.0 q.0).1 refl))
+
+pub class_len-most : (nodes : List Pair) (p : Pair) (m : ℕ) → 0 < length nodes → p ≡ get_or nodes 0 p → m ≡ prefix_len (λ q. bytes_eq q.0 p.0) (take (length nodes - 1) (drop 1 nodes)) → 1 + m ≤ length nodes
+class_len-most nodes p m l e f = let c = class_len-first nodes p m l e f in let b = prefix_len-le-length (λ (q : Pair). bytes_eq q.0 (class_hash nodes)) nodes in omega arith

@@ -52,16 +52,22 @@ pub(crate) fn in_hash_order<'a>(
     Ok(nodes)
 }
 
+// How many nodes at the front have the hash of this one.
+fn same_len(nodes: &[HashedNode<'_>], one: &HashedNode<'_>) -> usize
+    ensures { result ≡ prefix_len (λ n. bytes_eq n.0 one.now.0) nodes.now }
+{
+    nodes
+        .iter()
+        .take_while(|node| node.has_hash_of(one))
+        .count()
+}
+
 // How many nodes at the front have the hash of the first.
 fn class_len(nodes: &[HashedNode<'_>]) -> usize
     requires { 0 < length nodes.now }
     ensures { result ≡ prefix_len (λ n. bytes_eq n.0 (class_hash nodes.now)) nodes.now }
 {
-    let first = &nodes[0];
-    nodes
-        .iter()
-        .take_while(|node| node.has_hash_of(first))
-        .count()
+    1 + same_len(&nodes[1..], &nodes[0])
 }
 
 /// Where the class that begins at this place ends.

@@ -44,7 +44,7 @@ log_ties-requires-clause-room c =
     let many = as-many (meaning c.args.profile) D c.node_count-nodes.ensures.valid canon k h c.deref.result.now c.deref-2.result.now nodes ordered in
     let fewer = c.in_ok-results.ensures.fewer in
     let within = c.spent-spent.ensures.within in
-    let limit = c.limit-limit.ensures.limit in
+    let limit = c.limit-limit.ensures in
     let fits = c.limit-limit.type_inv in
     omega arith
 
