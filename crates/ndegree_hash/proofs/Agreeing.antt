@@ -1,5 +1,5 @@
 -- Texts that agree in their first places, and the path while it is written.
-use Rattle.std.proofs.Common.{Bool, List, Option, Some, [], ap, arith, drop, le-leb, length, length-drop, refl, subst, suc, sym, take, true, zero, ℕ, ◌++◌, ◌-◌, ◌<◌, ◌&&◌, ◌∙◌, ◌∷◌, ◌≡◌, ◌≤◌, append_assoc, take-append-drop}
+use Rattle.std.proofs.Common.{Bool, List, Some, [], ap, arith, drop, le-leb, length, length-drop, refl, suc, sym, take, true, zero, ℕ, ◌++◌, ◌-◌, ◌&&◌, ◌∙◌, ◌∷◌, ◌≡◌, ◌≤◌, append_assoc, take-append-drop}
 use Rattle.std.proofs.lemmas.Cmp.{nat_cmp_total, tied_itself}
 use Rattle.std.proofs.lemmas.List.{take_all}
 use Rattle.std.specs.Cmp.Lexicographic.{slice_cmp}

@@ -1,5 +1,5 @@
 -- What the counted run of a call says of the call.
-use Rattle.std.proofs.Common.{List, arith, length, subst, sym, ℕ, ◌+◌, ◌≡◌, ◌≤◌}
+use Rattle.std.proofs.Common.{List, arith, length, subst, sym, ℕ, ◌+◌, ◌≡◌}
 use Rattle.rdf_terms.specs.Dataset.{Dataset, IsValid}
 use Rattle.rdf_terms.specs.Lists.{Text}
 use Rattle.canon_model.specs.CountedRun.{counted_call}
@@ -10,7 +10,7 @@ use Rattle.canon_model.proofs.Recursion.{outcomes_are_valid}
 use Rattle.canon_model.proofs.Totality.{counted_call_is_outcome}
 use Rattle.canon_model.proofs.Uniqueness.{unique_up_to_symmetry}
 use Rattle.ndegree_hash.specs.Call.{IsCallResult, IsOnlyOutcome, LogsTiesOfCall}
-use Rattle.ndegree_hash.specs.Frames.{Account, IsFinished}
+use Rattle.ndegree_hash.specs.OpenCalls.{Account, IsFinished}
 use Rattle.canon_model.specs.JoinedTies.{JoinedCount}
 use Rattle.ndegree_hash.specs.Log.{LoggedTies}
 use Rattle.ndegree_hash.proofs.Logging.{joined-all}

@@ -1,17 +1,20 @@
 -- The end of a group: the chosen issuer comes back on the trail, and its ties are logged.
-use Rattle.std.proofs.Common.{Bool, List, None, Option, Some, [], ap, arith, cond, drop, false, get_or, inl, inr, is_some, length, map, refl, subst, suc, sym, take, true, true≢false, zero, ℕ, ◌+◌, ◌++◌, ◌<◌, ◌∙◌, ◌∷◌, ◌≡◌, ◌≤◌, append_assoc}
+use Rattle.std.proofs.Common.{Bool, List, None, Some, [], ap, arith, cond, drop, false, get_or, inl, inr, length, map, refl, subst, suc, sym, take, true, zero, ℕ, ◌++◌, ◌<◌, ◌∙◌, ◌∷◌, ◌≡◌, ◌≤◌}
 use Rattle.std.proofs.lemmas.List.{length-take, length-take-le, map-append, take-append-drop, take-append-le, take_all}
 use Rattle.rdf_terms.specs.Dataset.{Dataset}
-use Rattle.rdf_terms.specs.Lists.{AreDistinct, In, Text}
+use Rattle.rdf_terms.specs.Lists.{In}
 use Rattle.rdf_terms.proofs.Membership.{In-append_right}
-use Rattle.canon_model.specs.CountedRun.{Chosen, Tie, issuer_or, logged, path_or_none, ties_of_chosen}
+use Rattle.canon_model.specs.CountedRun.{Tie, issuer_or, logged, path_or_none, ties_of_chosen}
 use Rattle.ndegree_hash.specs.declared.frame.Frame.{Frame}
 use Rattle.ndegree_hash.specs.declared.at.At.TheVariants.{Close, Group}
 use Rattle.ndegree_hash.specs.Closing.{tie_with}
-use Rattle.ndegree_hash.specs.Frames.{IsKnown, IsSound, IsTrail, Leads, MayBeLogged, choice_of, chosen_issuer, ties_at}
+use Rattle.ndegree_hash.specs.KnownNodes.{IsKnown, IsSound, IsTrail}
+use Rattle.ndegree_hash.specs.FrameSteps.{Leads}
+use Rattle.ndegree_hash.specs.OwedTies.{MayBeLogged, ties_at}
+use Rattle.ndegree_hash.specs.Frames.{choice_of, chosen_issuer}
 use Rattle.ndegree_hash.specs.Log.{LoggedTies, Logs, LogsFront, LogsInTurn}
 use Rattle.tie_witness.specs.Witness.{TailMayBeChecked, right_of}
-use Rattle.ndegree_hash.proofs.Leading.{close-leads}
+use Rattle.ndegree_hash.proofs.GroupSteps.{close-leads}
 use Rattle.ndegree_hash.proofs.Logging.{logs-last}
 
 -- ---- what is chosen

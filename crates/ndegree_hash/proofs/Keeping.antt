@@ -1,5 +1,5 @@
 -- The frames and the trail hold nodes of the dataset.
-use Rattle.std.proofs.Common.{Bool, List, None, Option, Some, [], ap, cond, map, false, inl, inr, length, refl, subst, suc, sym, take, true, zero, ℕ, ◌++◌, ◌||◌, ◌<◌, ◌∙◌, ◌∷◌, ◌≡◌}
+use Rattle.std.proofs.Common.{Bool, List, None, Some, [], ap, cond, map, false, inl, inr, length, refl, subst, suc, sym, take, true, zero, ℕ, ◌++◌, ◌||◌, ◌<◌, ◌∙◌, ◌∷◌, ◌≡◌}
 use Rattle.rdf_terms.specs.Dataset.{Dataset}
 use Rattle.rdf_terms.specs.Lists.{AreDistinct, In, Permutes}
 use Rattle.rdf_terms.proofs.Permutations.{In-Permutes, Permutes-sym}
@@ -11,9 +11,13 @@ use Rattle.canon_model.proofs.Issuers.{are_distinct_from_once, are_once-push, ar
 use Rattle.ndegree_hash.specs.Walks.{KeepsTrail}
 use Rattle.ndegree_hash.specs.declared.frame.Frame.{Frame}
 use Rattle.related_hash.specs.declared.group.Group.{Group as Bag}
-use Rattle.ndegree_hash.specs.Frames.{GoesOn, IsAt, IsKnown, IsSound, IsTrail, choice_of}
+use Rattle.ndegree_hash.specs.FrameSteps.{GoesOn}
+use Rattle.ndegree_hash.specs.FramePlaces.{IsAt}
+use Rattle.ndegree_hash.specs.KnownNodes.{IsKnown, IsSound, IsTrail}
+use Rattle.ndegree_hash.specs.Frames.{choice_of}
 use Rattle.ndegree_hash.specs.Resume.{OpenGroup}
-use Rattle.ndegree_hash.proofs.Leading.{group-same, walked-group}
+use Rattle.ndegree_hash.proofs.TrailParts.{group-same}
+use Rattle.ndegree_hash.proofs.BegunPermutations.{walked-group}
 use Rattle.ndegree_hash.specs.declared.at.At.TheVariants.{Begin}
 
 pub In-take : (x : ℕ) (k : ℕ) (t : List ℕ) → In x (take k t) → In x t

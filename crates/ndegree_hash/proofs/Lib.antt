@@ -4,9 +4,15 @@ pub mod Behind
 pub mod Opening
 pub mod Agreeing
 pub mod Walking
-pub mod Leading
+pub mod TrailParts
+pub mod RecursionSteps
+pub mod BegunPermutations
+pub mod EndedPermutations
+pub mod GroupSteps
 pub mod Logging
+pub mod StackedFrames
 pub mod Running
+pub mod KnownFrames
 pub mod Keeping
 pub mod Closing
 pub mod Calling

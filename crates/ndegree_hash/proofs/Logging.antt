@@ -1,13 +1,12 @@
 -- What the log knows when ties were logged one after the other.
-use Rattle.std.proofs.Common.{List, MatchOption, None, Option, Some, [], ap, arith, inl, inr, length, refl, subst, suc, sym, zero, ℕ, ◌+◌, ◌++◌, ◌∙◌, ◌∷◌, ◌≡◌, ◌≤◌, ◌⊎◌, append-nil, append_assoc}
+use Rattle.std.proofs.Common.{List, MatchOption, None, Option, Some, [], ap, arith, inl, inr, length, refl, subst, suc, sym, zero, ℕ, ◌++◌, ◌∙◌, ◌∷◌, ◌≡◌, ◌≤◌, ◌⊎◌, append-nil, append_assoc}
 use Rattle.std.specs.Prelude.{Err, Ok, OnErr, Result}
 use Rattle.rdf_terms.specs.Dataset.{Dataset}
-use Rattle.rdf_terms.specs.Lists.{In}
 use Rattle.canon_model.specs.CountedRun.{Tie}
 use Rattle.canon_model.specs.Ties.{AreJoined}
 use Rattle.ndegree_hash.specs.declared.tie.Tie.{Tie as CarriedTie}
 use Rattle.canon_model.specs.JoinedTies.{IsFirstUnjoined, IsJoinedTie, JoinedCount}
-use Rattle.ndegree_hash.specs.Log.{IsFirstOf, LoggedTies, Logs, LogsAll, LogsFront, LogsInTurn, LogsJoined, LogsTie, LogsUnjoined, first_of, tie_of}
+use Rattle.ndegree_hash.specs.Log.{IsFirstOf, LoggedTies, LogsAll, LogsFront, LogsInTurn, LogsJoined, LogsTie, LogsUnjoined, first_of, tie_of}
 
 module _ (D : Dataset) where
   pub logs-append : (a b : List Tie) (old mid new : LoggedTies) → LogsInTurn D a old mid → LogsInTurn D b mid new → LogsInTurn D (a ++ b) old new

@@ -1,11 +1,10 @@
 -- The machine keeps its state.
-use Rattle.std.proofs.Common.{List, [], ap, arith, drop, false, inl, inr, length, map, refl, subst, suc, sym, take, zero, ℕ, ◌+◌, ◌++◌, ◌<◌, ◌∙◌, ◌∷◌, ◌≡◌, ◌≤◌, ◌-◌, ◌⊎◌, append-nil}
-use Rattle.std.proofs.lemmas.List.{drop-take, map-append}
+use Rattle.std.proofs.Common.{List, [], ap, arith, length, map, refl, subst, suc, sym, take, ℕ, ◌+◌, ◌++◌, ◌<◌, ◌∙◌, ◌∷◌, ◌≡◌, ◌≤◌, append-nil}
+use Rattle.std.proofs.lemmas.List.{map-append}
 use Rattle.rdf_terms.specs.Dataset.{Dataset}
 use Rattle.rdf_terms.specs.Lists.{In, Text}
 use Rattle.canon_model.specs.CountedRun.{Counted, CountedCall, Outcome, Tie, Trace, after, counted_groups, is_skipped, issuer_or, logged, followed_by, nothing, one_unit, path_or_none}
 use Rattle.canon_model.specs.Ties.{IsTie}
-use Rattle.canon_model.specs.Issuer.{IsValidCall}
 use Rattle.canon_model.specs.Groups.{groups}
 use Rattle.ndegree_hash.specs.PathChoice.{chosen_if}
 use Rattle.canon_model.specs.Hashing.{Hashing}
@@ -13,71 +12,19 @@ use Rattle.canon_model.specs.Recursion.{counted_step}
 use Rattle.ndegree_hash.specs.declared.frame.Frame.{Frame}
 use Rattle.ndegree_hash.specs.declared.at.At.{At}
 use Rattle.ndegree_hash.specs.declared.at.At.TheVariants.{Begin, Between, Call, Close, Ended, Group, Recursion, Return}
-use Rattle.ndegree_hash.specs.Behind.{behind}
-use Rattle.ndegree_hash.specs.Frames.{Account, AllKnown, AreStacked, IsKnown, IsSound, IsTrail, IsFinished, IsOpened, IsResumed, IsRunning, Leads, MayBeLogged, choice_of, first_mark, group_of, owed_below, part, rest_of, ties_at, waiting_of, whole_of}
+use Rattle.ndegree_hash.specs.OpenCalls.{Account, AreStacked, IsFinished, IsOpened, IsResumed, IsRunning, whole_of}
+use Rattle.ndegree_hash.specs.FrameSteps.{Leads}
+use Rattle.ndegree_hash.specs.OwedTies.{MayBeLogged, ties_at}
+use Rattle.ndegree_hash.specs.Frames.{choice_of, rest_of, waiting_of}
 use Rattle.ndegree_hash.specs.Log.{LoggedTies, LogsFront, LogsInTurn}
 use Rattle.ndegree_hash.specs.Resume.{after_choice, after_groups, resume, resume_all, resumed}
-use Rattle.ndegree_hash.proofs.Leading.{begin-unfolds, begun, choice-kept}
+use Rattle.ndegree_hash.proofs.BegunPermutations.{begin-unfolds, begun}
 use Rattle.ndegree_hash.proofs.Logging.{front-append, logs-all, logs-append}
 use Rattle.rdf_terms.proofs.Membership.{In-append_left, In-append_right}
 use Rattle.ndegree_hash.proofs.Opening.{counted_step-opens}
 use Rattle.ndegree_hash.proofs.Traces.{after-after, after-nothing}
 use Rattle.ndegree_hash.proofs.Unfolding.{resume_all-after, resume_all-append}
-
--- ---- the frames below don't see the trail behind the marks
-
-take-take_less : (k m : ℕ) (xs : List ℕ) → k ≤ m → take k (take m xs) ≡ take k xs
-take-take_less zero m xs h = refl
-take-take_less (suc k) zero xs h = absurd (let z : ⊥ = omega arith in z)
-take-take_less (suc k) (suc m) [] h = refl
-take-take_less (suc k) (suc m) (x ∷ xs) h = ap (λ ys. x ∷ ys) (take-take_less k m xs (omega arith))
-
-take_less : (t u : List ℕ) (k m : ℕ) → k ≤ m → take m t ≡ take m u → take k t ≡ take k u
-take_less t u k m h e = sym (take-take_less k m t h) ∙ ap (λ xs. take k xs) e ∙ take-take_less k m u h
-
-part-front : (t : List ℕ) (from to : ℕ) → from ≤ to → part t from to ≡ drop from (take to t)
-unfolding part
-part-front t from to h = sym (drop-take from (to - from) t) ∙ ap (λ n. drop from (take n t)) (let e : from + (to - from) ≡ to = omega arith in e)
-
-part_less : (t u : List ℕ) (from to m : ℕ) → from ≤ to → to ≤ m → take m t ≡ take m u → part t from to ≡ part u from to
-part_less t u from to m g h e = part-front t from to g ∙ ap (λ xs. drop from xs) (take_less t u to m h e) ∙ sym (part-front u from to g)
-
-pub waiting-kept : (t u : List ℕ) (f : Frame) (m : ℕ) → f.mark ≤ f.next → f.next ≤ f.last → f.last ≤ m → f.on_trail ≡ false → take m u ≡ take m t → waiting_of u f ≡ waiting_of t f
-waiting-kept t u f m a b d aside e =
-    let low : take f.mark u ≡ take f.mark t = take_less u t f.mark m (omega arith) e in
-    ap (λ (nodes : List ℕ). record { group = group_of u f (behind f.arrangement); path = f.paths.path; nodes = nodes }) (part_less u t f.next f.last m b d e)
-    ∙ ap (λ ch. record { group = record { text = f.text.items; bags = f.groups; begun = take f.mark u; chosen = ch; left = behind f.arrangement }; path = f.paths.path; nodes = part t f.next f.last }) (choice-kept t u f aside low)
-    ∙ ap (λ b. record { group = record { text = f.text.items; bags = f.groups; begun = b; chosen = choice_of t f; left = behind f.arrangement }; path = f.paths.path; nodes = part t f.next f.last }) low
-
-first_mark-most : (below : List Frame) (m : ℕ) → AreStacked below m → first_mark below m ≤ m
-first_mark-most [] m s = omega arith
-first_mark-most (f ∷ below) m s = let r = first_mark-most below m s.4 in let a = s.0 in let b = s.1 in let d = s.2 in omega arith
-
-pub all_waiting-kept : (t u : List ℕ) (below : List Frame) (m : ℕ) → AreStacked below m → take m u ≡ take m t → map (waiting_of u) below ≡ map (waiting_of t) below
-all_waiting-kept t u [] m s e = refl
-all_waiting-kept t u (f ∷ below) m s e =
-    let l : f.last ≤ m = let h = first_mark-most below m s.4 in let d = s.2 in omega arith in
-    ap (λ w. w ∷ map (waiting_of u) below) (waiting-kept t u f m s.0 s.1 l s.3 e)
-    ∙ ap (λ ws. waiting_of t f ∷ ws) (all_waiting-kept t u below m s.4 e)
-
-pub stacked-more : (below : List Frame) (m k : ℕ) → m ≤ k → AreStacked below m → AreStacked below k
-stacked-more [] m k h s = tt
-stacked-more (f ∷ []) m k h s = let d = s.2 in (s.0, s.1, omega arith, s.3, tt)
-stacked-more (f ∷ g ∷ below) m k h s = (s.0, s.1, s.2, s.3, stacked-more (g ∷ below) m k h s.4)
-
--- ---- a frame is put on top, or taken off
-
-pub stacked-push : (below : List Frame) (f : Frame) (m : ℕ) → AreStacked below f.mark → f.mark ≤ f.next → f.next ≤ f.last → f.last ≤ m → f.on_trail ≡ false → AreStacked (below ++ f ∷ []) m
-stacked-push [] f m s a b d aside = (a, b, d, aside, tt)
-stacked-push (g ∷ []) f m s a b d aside = (s.0, s.1, s.2, s.3, (a, b, d, aside, tt))
-stacked-push (g ∷ h ∷ below) f m s a b d aside = (s.0, s.1, s.2, s.3, stacked-push (h ∷ below) f m s.4 a b d aside)
-
-pub stacked-pop : (below : List Frame) (f : Frame) (m : ℕ) → AreStacked (below ++ f ∷ []) m → AreStacked below f.mark × ((f.mark ≤ f.next) × (f.next ≤ f.last) × (f.last ≤ m) × (f.on_trail ≡ false))
-stacked-pop [] f m s = (tt, (s.0, s.1, s.2, s.3))
-stacked-pop (g ∷ []) f m s = let r = stacked-pop [] f m s.4 in ((s.0, s.1, s.2, s.3, tt), r.1)
-stacked-pop (g ∷ h ∷ below) f m s = let r = stacked-pop (h ∷ below) f m s.4 in ((s.0, s.1, s.2, s.3, r.0), r.1)
-
--- ---- the steps of the machine
+use Rattle.ndegree_hash.proofs.StackedFrames.{all_waiting-kept, stacked-more, stacked-pop, stacked-push}
 
 module _ (ρ : Hashing) (D : Dataset) (call : CountedCall) (c : List ℕ) (whole : Counted Outcome) (before : Account) where
   -- a step of the running frame
@@ -198,8 +145,6 @@ running-front ρ D call c whole before t below f at now r = record {
   logs = r.logs;
 }
 
--- ---- the same at a place that is told by an equation
-
 module _ (ρ : Hashing) (D : Dataset) (call : CountedCall) (c : List ℕ) (whole : Counted Outcome) (before : Account) (t : List ℕ) (below : List Frame) (f : Frame) (at : At) (now : Account) (r : IsRunning ρ D call c whole before t below f at now) where
   pub running-at : (to : At) → at ≡ to → IsRunning ρ D call c whole before t below f to now
   running-at to e = subst (λ a. IsRunning ρ D call c whole before t below f a now) e r
@@ -285,65 +230,6 @@ module _ (ρ : Hashing) (D : Dataset) (call : CountedCall) (c : List ℕ) (whole
       by Close s = λ tie h. (tied tie (running-logs ρ D call c whole before t below f now s tie h)).may_be_exchanged
       by (Call n) s = λ tie h. absurd h
       by Return s = λ tie h. absurd h
-
--- ---- the frames and the trail hold nodes of the dataset
-
-module _ (D : Dataset) (c : List ℕ) where
-  pub AllKnown-push : (t : List ℕ) (frames : List Frame) (f : Frame) → AllKnown D c t frames → IsKnown D c t f → AllKnown D c t (frames ++ f ∷ [])
-  AllKnown-push t [] f a k = record { known = λ g h. by g h }
-    where
-      by : (g : Frame) → (g ≡ f) ⊎ ⊥ → IsKnown D c t g
-      by g (inl e) = subst (IsKnown D c t) (sym e) k
-      by g (inr m) = absurd m
-  AllKnown-push t (h ∷ frames) f a k = record { known = by (AllKnown-push t frames f (record { known = λ x y. a.known x (inr y) }) k) }
-    where
-      by : AllKnown D c t (frames ++ f ∷ []) → (g : Frame) → In g (h ∷ (frames ++ f ∷ [])) → IsKnown D c t g
-      by r g (inl e) = a.known g (inl e)
-      by r g (inr m) = r.known g m
-
-  pub AllKnown-pop : (t : List ℕ) (frames : List Frame) (f : Frame) → AllKnown D c t (frames ++ f ∷ []) → AllKnown D c t frames × IsKnown D c t f
-  AllKnown-pop t [] f a = (record { known = λ g h. absurd h }, a.known f (inl refl))
-  AllKnown-pop t (h ∷ frames) f a =
-      let r = AllKnown-pop t frames f (record { known = λ x y. a.known x (inr y) }) in
-      (record { known = by r.0 }, r.1)
-    where
-      by : AllKnown D c t frames → (g : Frame) → In g (h ∷ frames) → IsKnown D c t g
-      by r g (inl e) = a.known g (inl e)
-      by r g (inr m) = r.known g m
-
-  -- the frames below don't see that the trail has changed behind the marks
-  pub AllKnown-kept : (t u : List ℕ) (below : List Frame) (m : ℕ) → AreStacked below m → take m u ≡ take m t → AllKnown D c t below → AllKnown D c u below
-  AllKnown-kept t u [] m s e a = record { known = λ g h. absurd h }
-  AllKnown-kept t u (f ∷ below) m s e a =
-      record { known = by (AllKnown-kept t u below m s.4 e (record { known = λ x y. a.known x (inr y) })) }
-    where
-      head : IsKnown D c u f
-      head =
-          let k = a.known f (inl refl) in
-          let low : f.mark ≤ m = let h = first_mark-most below m s.4 in let p = s.0 in let q = s.1 in let d = s.2 in omega arith in
-          record {
-            arrangement = k.arrangement;
-            bags = k.bags;
-            chosen = subst (IsSound D c) (sym (choice-kept t u f s.3 (take_less u t f.mark m low e))) k.chosen;
-          }
-
-      by : AllKnown D c u below → (g : Frame) → In g (f ∷ below) → IsKnown D c u g
-      by r g (inl q) = subst (IsKnown D c u) (sym q) head
-      by r g (inr q) = r.known g q
-
-pub owed_below-append : (frames : List Frame) (f : Frame) → owed_below (frames ++ f ∷ []) ≡ owed_below frames + suc (length f.others.items)
-owed_below-append [] f = omega arith
-owed_below-append (g ∷ frames) f = let e = owed_below-append frames f in omega arith
-
-pub IsTrail-valid : (D : Dataset) (c t : List ℕ) (n m : ℕ) (i : List ℕ) → IsValidCall D c m i → IsTrail D c t → In n t → IsValidCall D c n t
-IsTrail-valid D c t n m i v r h = record {
-  canonical_nodes = v.canonical_nodes;
-  temporary_nodes = r.nodes;
-  canonical_once = v.canonical_once;
-  temporary_once = r.once;
-  apart = r.apart;
-  listed = h;
-}
 
 pub IsRunning-calls : (ρ : Hashing) (D : Dataset) (call : CountedCall) (c : List ℕ) (whole : Counted Outcome) (before : Account) (t : List ℕ) (below : List Frame) (f : Frame) (at : At) (now : Account) (n : ℕ) → IsRunning ρ D call c whole before t below f at now → at ≡ Call n → In n t
 IsRunning-calls ρ D call c whole before t below f at now n r e = (running-at ρ D call c whole before t below f at now r (Call n) e).stands.1

@@ -5,6 +5,11 @@ pub mod Resume
 pub mod Behind
 pub mod Walks
 pub mod Frames
+pub mod FramePlaces
+pub mod KnownNodes
+pub mod OwedTies
+pub mod FrameSteps
+pub mod OpenCalls
 pub mod Spending
 pub mod Log
 pub mod Closing

@@ -2,7 +2,7 @@
 use Rattle.std.specs.Prelude.{◌≡◌, ◌<◌, ℕ, Bool, false, ◌++◌, List, [], take, length, Option}
 use Rattle.rdf_terms.specs.Lists.{Text, In}
 use Rattle.rdf_terms.specs.Dataset.{Dataset}
-use Rattle.ndegree_hash.specs.Frames.{IsTrail}
+use Rattle.ndegree_hash.specs.KnownNodes.{IsTrail}
 use Rattle.canon_model.specs.Walk.{issuer_copy_after, path_of_identifiers}
 use Rattle.canon_model.specs.CountedRun.{is_skipped}
 

@@ -3,7 +3,11 @@
 ghost use Rattle.std.specs.Prelude.{◌≡◌, ◌≤◌, ◌<◌, ◌+◌, ◌++◌, false, length, map, take, OnOk, OnErr, IfOk, All};
 ghost use Rattle.rdf_terms.specs.Lists.{AreDistinct};
 ghost use Rattle.canon_model.specs.CountedRun.{nothing, logged};
-ghost use Rattle.ndegree_hash.specs.Frames.{IsAt, Leads, chosen_issuer, ties_at, MayBeLogged, owed, Keeps, IsKnown};
+ghost use Rattle.ndegree_hash.specs.FramePlaces.{IsAt};
+ghost use Rattle.ndegree_hash.specs.FrameSteps.{Leads};
+ghost use Rattle.ndegree_hash.specs.Frames.{chosen_issuer};
+ghost use Rattle.ndegree_hash.specs.OwedTies.{ties_at, MayBeLogged, owed};
+ghost use Rattle.ndegree_hash.specs.KnownNodes.{Keeps, IsKnown};
 ghost use Rattle.ndegree_hash.specs.Log.{LogsFront, LogsInTurn};
 ghost use Rattle.ndegree_hash.specs.Closing.{tie_with};
 ghost use Rattle.rdf_terms.specs.Document.{dataset as dataset_of};

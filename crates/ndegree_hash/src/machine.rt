@@ -6,7 +6,7 @@ ghost use Rattle.rdf_terms.specs.Dataset.{IsValid};
 ghost use Rattle.rdf_terms.specs.Document.{dataset as dataset_of};
 ghost use Rattle.canon_model.specs.Meaning.{meaning};
 ghost use Rattle.canon_model.specs.FirstDegree.{hash_first_degree_quads};
-ghost use Rattle.ndegree_hash.specs.Frames.{IsOpened, IsLeft, AreStacked, IsFinished};
+ghost use Rattle.ndegree_hash.specs.OpenCalls.{IsOpened, IsLeft, AreStacked, IsFinished};
 ghost use Rattle.canon_model.specs.Issuer.{IsValidCall};
 ghost use Rattle.canon_model.specs.CountedRun.{counted_call};
 ghost use Rattle.ndegree_hash.specs.Call.{IsCallResult, Spends, IsOverBudget, LogsTiesOfCall, LogsFrontOfCall, IsOnlyOutcome};

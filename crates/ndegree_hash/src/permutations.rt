@@ -2,7 +2,10 @@
 
 ghost use Rattle.std.specs.Prelude.{◌≡◌, ◌<◌, ◌≤◌, suc, length, drop, OnOk, IfOk, All};
 ghost use Rattle.canon_model.specs.CountedRun.{nothing, one_unit};
-ghost use Rattle.ndegree_hash.specs.Frames.{IsAt, Leads, IsAside, owed, Keeps};
+ghost use Rattle.ndegree_hash.specs.FramePlaces.{IsAt};
+ghost use Rattle.ndegree_hash.specs.FrameSteps.{Leads, IsAside};
+ghost use Rattle.ndegree_hash.specs.OwedTies.{owed};
+ghost use Rattle.ndegree_hash.specs.KnownNodes.{Keeps};
 
 use crate::at::At;
 use crate::frame::Frame;

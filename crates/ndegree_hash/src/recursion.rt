@@ -2,7 +2,10 @@
 
 ghost use Rattle.std.specs.Prelude.{◌≡◌, ◌≤◌, OnOk, IfOk};
 ghost use Rattle.canon_model.specs.CountedRun.{nothing};
-ghost use Rattle.ndegree_hash.specs.Frames.{IsAt, IsInRecursion, Leads, Resumes, owed, Keeps, IsKnown};
+ghost use Rattle.ndegree_hash.specs.FramePlaces.{IsAt, IsInRecursion};
+ghost use Rattle.ndegree_hash.specs.FrameSteps.{Leads, Resumes};
+ghost use Rattle.ndegree_hash.specs.OwedTies.{owed};
+ghost use Rattle.ndegree_hash.specs.KnownNodes.{Keeps, IsKnown};
 ghost use Rattle.rdf_terms.specs.Dataset.{Dataset as AbstractDataset};
 
 use crate::at::At;

@@ -2,7 +2,10 @@
 
 ghost use Rattle.std.specs.Prelude.{◌≡◌, ◌≤◌, ◌+◌, length, OnOk, OnErr, IfOk};
 ghost use Rattle.canon_model.specs.CountedRun.{logged};
-ghost use Rattle.ndegree_hash.specs.Frames.{IsAt, Leads, IsWithin, ties_at, MayBeLogged, owed, Keeps, IsKnown};
+ghost use Rattle.ndegree_hash.specs.FramePlaces.{IsAt, IsWithin};
+ghost use Rattle.ndegree_hash.specs.FrameSteps.{Leads};
+ghost use Rattle.ndegree_hash.specs.OwedTies.{ties_at, MayBeLogged, owed};
+ghost use Rattle.ndegree_hash.specs.KnownNodes.{Keeps, IsKnown};
 ghost use Rattle.ndegree_hash.specs.Log.{LogsFront, LogsInTurn};
 ghost use Rattle.rdf_terms.specs.Document.{dataset as dataset_of};
 

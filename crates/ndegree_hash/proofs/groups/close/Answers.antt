@@ -1,10 +1,10 @@
-use Rattle.std.proofs.Common.{List, ap, get_or, length, map, refl, subst, sym, ℕ, ◌++◌, ◌∙◌, ◌<◌, ◌≡◌, append-nil, true, false, not}
+use Rattle.std.proofs.Common.{List, ap, get_or, length, map, refl, subst, sym, ℕ, ◌++◌, ◌∙◌, ◌<◌, append-nil}
 use Rattle.rdf_terms.specs.Document.{dataset as dataset_of}
 use Rattle.ndegree_hash.specs.Closing.{tie_with}
-use Rattle.ndegree_hash.specs.Frames.{IsTrail, chosen_issuer}
+use Rattle.ndegree_hash.specs.KnownNodes.{IsTrail}
 use Rattle.ndegree_hash.specs.Log.{LogsFront, LogsInTurn}
 use Rattle.tie_witness.specs.Witness.{TailMayBeChecked}
-use Rattle.ndegree_hash.proofs.Closing.{aside-fits, chosen-trail, close-chosen, close-none, others-may_be_checked, ties-are}
+use Rattle.ndegree_hash.proofs.Closing.{aside-fits, close-chosen, close-none, others-may_be_checked, ties-are}
 use Rattle.ndegree_hash.proofs.Keeping.{IsTrail-take, known-closed}
 use Rattle.ndegree_hash.proofs.Logging.{front-whole, on_err}
 use Rattle.ndegree_hash.proofs.groups.close.Goals as goal

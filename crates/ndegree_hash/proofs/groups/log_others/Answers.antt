@@ -1,4 +1,4 @@
-use Rattle.std.proofs.Common.{List, [], ap, arith, get_or, subst, sym, take, ℕ, ◌+◌, ◌++◌, ◌∙◌, ◌∷◌, ◌≡◌}
+use Rattle.std.proofs.Common.{List, [], ap, arith, subst, sym, take, ℕ, ◌+◌, ◌++◌, ◌∙◌, ◌∷◌, ◌≡◌}
 use Rattle.std.proofs.lemmas.List.{take_more}
 use Rattle.rdf_terms.specs.Document.{dataset as dataset_of}
 use Rattle.ndegree_hash.specs.Log.{Logs}

@@ -2,7 +2,7 @@ use Rattle.std.proofs.Common.{ap, refl, subst, sym, ◌++◌, ◌∙◌}
 use Rattle.arrangements.specs.Arrangements.{IsFirst}
 use Rattle.ndegree_hash.specs.PathChoice.{PathChoice}
 use Rattle.ndegree_hash.proofs.Keeping.{known-group, known-same}
-use Rattle.ndegree_hash.proofs.Leading.{group-begins, group-ends}
+use Rattle.ndegree_hash.proofs.GroupSteps.{group-begins, group-ends}
 use Rattle.ndegree_hash.proofs.groups.next_group.Goals as goal
 
 pub returns-in_default-clause-leads : goal.returns-in_default-clause-leads

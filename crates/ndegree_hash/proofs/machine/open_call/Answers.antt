@@ -1,4 +1,4 @@
-use Rattle.std.proofs.Common.{List, ap, subst, sym, ℕ, ◌<◌}
+use Rattle.std.proofs.Common.{List, ap, subst, sym}
 use Rattle.rdf_terms.proofs.Permutations.{In-Permutes, Permutes-sym}
 use Rattle.rdf_terms.specs.Document.{dataset as dataset_of}
 use Rattle.rdf_terms.specs.Lists.{In}

@@ -13,9 +13,13 @@ use Rattle.canon_model.proofs.Recursion.{counted_call_of_calls}
 use Rattle.canon_model.proofs.CallTies.{ties_of_call_are_tied}
 use Rattle.ndegree_hash.specs.declared.at.At.TheVariants.{Begin, Call, Group, Return}
 use Rattle.ndegree_hash.specs.declared.frame.Frame.{Frame}
-use Rattle.ndegree_hash.specs.Frames.{Account, AllKnown, IsLeft, IsResumed, IsRunning, IsTrail, Leads, owed, owed_below, ties_at}
-use Rattle.ndegree_hash.proofs.Leading.{In-get_or}
-use Rattle.ndegree_hash.proofs.Running.{AllKnown-kept, AllKnown-pop, AllKnown-push, IsRunning-calls, IsRunning-stacked, IsTrail-valid, begin-keeps, call-keeps, over-begin, over-call, owed_below-append, return-ends, return-keeps, return-stacked, running-begins, step-front, step-keeps, step-may_log}
+use Rattle.ndegree_hash.specs.OpenCalls.{Account, IsLeft, IsResumed, IsRunning}
+use Rattle.ndegree_hash.specs.KnownNodes.{AllKnown, IsTrail}
+use Rattle.ndegree_hash.specs.FrameSteps.{Leads}
+use Rattle.ndegree_hash.specs.OwedTies.{owed, owed_below, ties_at}
+use Rattle.ndegree_hash.proofs.TrailParts.{In-get_or}
+use Rattle.ndegree_hash.proofs.KnownFrames.{AllKnown-kept, AllKnown-pop, AllKnown-push, IsTrail-valid, owed_below-append}
+use Rattle.ndegree_hash.proofs.Running.{IsRunning-calls, IsRunning-stacked, begin-keeps, call-keeps, over-begin, over-call, return-ends, return-keeps, return-stacked, running-begins, step-front, step-keeps, step-may_log}
 use Rattle.ndegree_hash.proofs.Logging.{on_err}
 use Rattle.ndegree_hash.proofs.machine.run.Goals as goal
 

@@ -2,7 +2,10 @@ use Rattle.std.proofs.Common.{◌+◌, ◌<◌, ◌≤◌, ◌≡◌}
 use Rattle.rdf_terms.specs.Document.{dataset as dataset_of}
 use Rattle.canon_model.specs.Meaning.{meaning}
 use Rattle.canon_model.specs.CountedRun.{counted_call}
-use Rattle.ndegree_hash.specs.Frames.{AllKnown, IsKnown, IsRunning, IsTrail, owed, owed_below, work_left}
+use Rattle.ndegree_hash.specs.KnownNodes.{AllKnown, IsKnown, IsTrail}
+use Rattle.ndegree_hash.specs.OpenCalls.{IsRunning}
+use Rattle.ndegree_hash.specs.OwedTies.{owed, owed_below}
+use Rattle.ndegree_hash.specs.FramePlaces.{work_left}
 use Rattle.ndegree_hash.proofs.machine.run.Given as goal
 
 abbrev pub invariant-loop-at : goal.invariant-loop-at

@@ -1,4 +1,4 @@
-use Rattle.std.proofs.Common.{arith, length, sym, ◌∙◌, ◌≤◌}
+use Rattle.std.proofs.Common.{arith, sym, ◌∙◌}
 use Rattle.std.specs.Cmp.Lexicographic.{bytes_decides}
 use Rattle.ndegree_hash.proofs.Agreeing.{agree-further}
 use Rattle.ndegree_hash.proofs.paths.agreement.Goals as goal

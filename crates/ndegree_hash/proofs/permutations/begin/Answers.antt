@@ -2,7 +2,7 @@ use Rattle.std.proofs.Common.{ap, refl, subst}
 use Rattle.rdf_terms.specs.Lists.{In}
 use Rattle.ndegree_hash.specs.PathChoice.{PathChoice}
 use Rattle.ndegree_hash.proofs.Keeping.{known-begun}
-use Rattle.ndegree_hash.proofs.Leading.{begin-leads-skipped, begin-leads-written, same_choice-begun, walks-begun}
+use Rattle.ndegree_hash.proofs.BegunPermutations.{begin-leads-skipped, begin-leads-written, same_choice-begun, walks-begun}
 use Rattle.ndegree_hash.proofs.permutations.begin.Goals as goal
 
 pub walk-requires-clause-path : goal.walk-requires-clause-path

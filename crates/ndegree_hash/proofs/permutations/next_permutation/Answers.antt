@@ -3,11 +3,14 @@ use Rattle.ndegree_hash.specs.declared.at.At.TheVariants.{Begin, Between}
 use Rattle.canon_model.specs.CountedRun.{nothing}
 use Rattle.ndegree_hash.specs.Behind.{behind}
 use Rattle.rdf_terms.specs.Lists.{Permutes}
-use Rattle.ndegree_hash.specs.Frames.{IsTrail, Leads, choice_of}
+use Rattle.ndegree_hash.specs.KnownNodes.{IsTrail}
+use Rattle.ndegree_hash.specs.FrameSteps.{Leads}
+use Rattle.ndegree_hash.specs.Frames.{choice_of}
 use Rattle.ndegree_hash.specs.Resume.{OpenGroup}
 use Rattle.ndegree_hash.proofs.Keeping.{IsTrail-take, known-permuted, known-same}
 use Rattle.ndegree_hash.proofs.Behind.{behind-last, behind-next}
-use Rattle.ndegree_hash.proofs.Leading.{between-begins, between-closes, choice-kept}
+use Rattle.ndegree_hash.proofs.EndedPermutations.{between-begins, between-closes}
+use Rattle.ndegree_hash.proofs.TrailParts.{choice-kept}
 use Rattle.std.proofs.lemmas.List.{length-take, take_all}
 use Rattle.ndegree_hash.proofs.permutations.next_permutation.Goals as goal
 

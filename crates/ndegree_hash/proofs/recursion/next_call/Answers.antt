@@ -2,7 +2,7 @@ use Rattle.std.proofs.Common.{ap, get_or, refl, ◌++◌, ◌∙◌, ◌∷◌, 
 use Rattle.ndegree_hash.specs.PathChoice.{PathChoice}
 use Rattle.ndegree_hash.proofs.Agreeing.{same_choice-written}
 use Rattle.ndegree_hash.proofs.Keeping.{known-goes_on}
-use Rattle.ndegree_hash.proofs.Leading.{recursion-calls, recursion-ends}
+use Rattle.ndegree_hash.proofs.RecursionSteps.{recursion-calls, recursion-ends}
 use Rattle.ndegree_hash.proofs.recursion.next_call.Goals as goal
 
 pub returns-then-frame-clause-leads : goal.returns-then-frame-clause-leads

@@ -1,7 +1,7 @@
 use Rattle.std.proofs.Common.{refl, ◌∙◌}
 use Rattle.ndegree_hash.proofs.Agreeing.{has_written, path-written, same_choice-written_first}
 use Rattle.ndegree_hash.proofs.Keeping.{known-goes_on}
-use Rattle.ndegree_hash.proofs.Leading.{resume-goes_on, resume-skips}
+use Rattle.ndegree_hash.proofs.RecursionSteps.{resume-goes_on, resume-skips}
 use Rattle.ndegree_hash.proofs.recursion.resume.Goals as goal
 
 pub returns-then-is_past-clause-resumes : goal.returns-then-is_past-clause-resumes

@@ -1,6 +1,6 @@
 use Rattle.std.proofs.Common.{subst}
 use Rattle.rdf_terms.specs.Document.{dataset as dataset_of}
-use Rattle.ndegree_hash.specs.Frames.{MayBeLogged, ties_at}
+use Rattle.ndegree_hash.specs.OwedTies.{MayBeLogged, ties_at}
 use Rattle.ndegree_hash.proofs.step.step.Goals as goal
 
 pub close-requires-clause-ties : goal.close-requires-clause-ties

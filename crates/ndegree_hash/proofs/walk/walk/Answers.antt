@@ -1,10 +1,10 @@
-use Rattle.std.proofs.Common.{List, add-one, ap, drop, drop-cons, get_or, subst, sym, ℕ, ◌+◌, ◌++◌, ◌∙◌, ◌∷◌, ◌≡◌}
+use Rattle.std.proofs.Common.{List, add-one, drop, drop-cons, get_or, subst, sym, ℕ, ◌+◌, ◌++◌, ◌∙◌, ◌∷◌, ◌≡◌}
 use Rattle.canon_model.specs.Issuer.{label}
 use Rattle.ndegree_hash.specs.PathChoice.{chosen_if}
 use Rattle.ndegree_hash.specs.Walks.{IsWalking}
 use Rattle.ndegree_hash.proofs.Agreeing.{has_written}
 use Rattle.ndegree_hash.proofs.Keeping.{keeps_trail-node}
-use Rattle.ndegree_hash.proofs.Leading.{In-get_or}
+use Rattle.ndegree_hash.proofs.TrailParts.{In-get_or}
 use Rattle.ndegree_hash.proofs.Walking.{walking-goes_on}
 use Rattle.ndegree_hash.proofs.walk.walk.Goals as goal
 
