@@ -1,3 +1,5 @@
+//! A bag of nodes in one order, and the next order behind it.
+
 ghost use Rattle.std.specs.Prelude.{◌≡◌, ◌<◌, ◌↔◌, ◌+◌, false, ◌++◌, length, take, drop, reverse, swap, IfOk, MatchOption};
 ghost use Rattle.std.specs.Bool.{OnTrue, OnFalse};
 ghost use Rattle.arrangements.specs.Arrangements.{IsFirst, IsLast, IsNext};

@@ -1,3 +1,5 @@
+//! Lines in one buffer.
+
 ghost use Rattle.std.specs.Prelude.{◌≡◌, ◌<◌, ◌≤◌, ◌-◌, ◌++◌, [], ◌∷◌, length, map, sum, take, IfOk, OnOk, OnErr};
 ghost use Rattle.rdf_terms.specs.CanonicalForm.{canonical_line};
 ghost use Rattle.rdf_terms.specs.Document.{statement, term_at, IsInRange};

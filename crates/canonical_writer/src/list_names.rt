@@ -1,3 +1,5 @@
+//! Names by the places of a list.
+
 ghost use Rattle.std.specs.Prelude.{◌≡◌, ◌<◌, ◌++◌, All, IfOk, IsSome, codes};
 ghost use Rattle.rdf_terms.specs.CanonicalForm.{issued_name, place_of, prefix_text};
 ghost use Rattle.rdf_terms.specs.Lists.{AreDistinct};

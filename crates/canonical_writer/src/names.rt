@@ -1,3 +1,5 @@
+//! What names blank nodes.
+
 ghost use Rattle.std.specs.Prelude.{◌≡◌, ◌++◌, ℕ, List, Option, OnOk, OnErr, IsSome, codes};
 ghost use Rattle.std.specs.Io.{StartsWith};
 ghost use Rattle.rdf_terms.specs.CanonicalForm.{name_or_nothing};

@@ -1,3 +1,5 @@
+//! Numerals, digit by digit.
+
 ghost use Rattle.std.specs.Prelude.{◌≡◌, ◌++◌, OnOk};
 ghost use Rattle.std.specs.Io.{StartsWith};
 ghost use Rattle.rdf_terms.specs.Numeral.{numeral};

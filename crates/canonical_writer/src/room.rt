@@ -1,3 +1,5 @@
+//! Room for the lines of some runs at once.
+
 ghost use Rattle.std.specs.Prelude.{◌≡◌, ◌≤◌, length};
 
 use crate::line::is_string_type;

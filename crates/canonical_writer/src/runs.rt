@@ -1,3 +1,5 @@
+//! Neighbouring quads of one subject.
+
 ghost use Rattle.std.specs.Prelude.{◌≡◌, ◌==◌, ◌≤◌, [], length, map, sum, All, IfOk};
 ghost use Rattle.std.specs.List.{prefix_len, flat_map, zip, AllZip};
 ghost use Rattle.std.specs.List.Sorted.{IsPermutation};

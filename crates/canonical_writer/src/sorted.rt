@@ -1,3 +1,5 @@
+//! The lines of many quads in byte order.
+
 ghost use Rattle.std.specs.Prelude.{◌≡◌, ◌++◌, map, true, All, IfOk, OnOk};
 ghost use Rattle.std.specs.Io.{StartsWith};
 ghost use Rattle.std.specs.Bool.{Decides};

@@ -1,3 +1,5 @@
+//! The classes of characters that the grammars name.
+
 ghost use Rattle.std.specs.Prelude.{◌≡◌, not};
 ghost use Rattle.char_tables.specs.Rows.{is_in};
 ghost use Rattle.char_tables.specs.Classes.{pn_chars_base, pn_chars_u_nquads, pn_chars_u_trig, pn_chars, is_ascii_pn, excluded_from_iriref, hex};

@@ -1,3 +1,5 @@
+//! A table of code points in rows, searched by halving.
+
 ghost use Rattle.std.specs.Prelude.{◌≡◌, ℕ, List, IsTrue};
 ghost use Rattle.char_tables.specs.Rows.{is_in, are_in_order};
 

@@ -1,3 +1,5 @@
+//! A dataset, by quad and by node.
+
 ghost use Rattle.std.specs.Prelude.{◌≡◌, ◌<◌, ◌↔◌, Some, length, slice_get, All, IfOk, IsTrue, []};
 ghost use Rattle.rdf_terms.specs.Lists.{In, AreDistinct, Permutes};
 ghost use Rattle.rdf_terms.specs.Dataset.{IsValid};

@@ -1,3 +1,5 @@
+//! That a quad mentions a node.
+
 /// The quad at a place mentions a node.
 #[derive(Clone, Copy, Debug)]
 pub(crate) struct Mention {

@@ -1,3 +1,5 @@
+//! The term of each node.
+
 ghost use Rattle.std.specs.Prelude.{◌≡◌, ℕ, ◌<◌, Some, length, slice_get, IfOk};
 ghost use Rattle.rdf_terms.specs.declared.term.Term.TheVariants.{Blank};
 ghost use Rattle.dataset_index.specs.NodeTerms.{NumbersNodes};

@@ -1,3 +1,5 @@
+//! The node of each term.
+
 ghost use Rattle.std.specs.Prelude.{◌≡◌, ◌<◌, length, map, IfOk};
 ghost use Rattle.rdf_terms.specs.Document.{term_at};
 ghost use Rattle.dataset_index.specs.Mentions.{node_in};

@@ -1,3 +1,5 @@
+//! Identifiers for nodes, in the order in which they are asked for.
+
 ghost use Rattle.std.specs.Prelude.{◌≡◌, ◌<◌, ◌≤◌, ◌++◌, [], take, length, All, IfOk, OnOk, OnErr};
 ghost use Rattle.rdf_terms.specs.Lists.{AreDistinct};
 ghost use Rattle.rdf_terms.specs.CanonicalForm.{place_of};

@@ -1,3 +1,5 @@
+//! Dot segments taken out of a path.
+
 ghost use Rattle.std.specs.Prelude.{◌≡◌, ◌<◌, ◌==◌, if◌then◌else◌, IfOk, codes, length, take, drop, string_bytes};
 ghost use Rattle.iri_resolve.specs.DotSegments.{Buffers, first_segment_len, without_slash, without_last_segment, turn, without_dot_segments};
 

@@ -1,3 +1,5 @@
+//! The components of a reference.
+
 ghost use Rattle.std.specs.Prelude.{◌≡◌, ◌<◌};
 ghost use Rattle.std.specs.Option.{option_copied};
 ghost use Rattle.iri_resolve.specs.Components.{before, after, scheme_of, without_scheme, authority_of, path_of, components};
@@ -41,7 +43,7 @@ fn split_authority(text: &str) -> (Option<&str>, &str)
 }
 
 #[tactic(auto, unfolding(crate::specs::Components::components))]
-/// The five components of a text, cut as RFC 3986 does it (appendix B); each is a part of the text.
+/// The five components of a text, cut as RFC 3986 does it (sections 3 and 4.1); each is a part of the text.
 pub fn split(text: &str) -> Parts<'_>
     ensures { components_of result ≡ components text.now }
 {

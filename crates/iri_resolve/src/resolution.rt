@@ -1,3 +1,5 @@
+//! A reference resolved against a base.
+
 ghost use Rattle.std.specs.Prelude.{◌≡◌, ◌++◌, ◌||◌, ◌==◌, if◌then◌else◌, length, IfOk, OnOk, All, false, is_some, string_bytes};
 ghost use Rattle.std.specs.Option.{option_copied, option_or};
 ghost use Rattle.rdf_terms.specs.Terms.{HasScheme, is_excluded};

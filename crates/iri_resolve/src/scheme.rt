@@ -1,3 +1,5 @@
+//! Whether a text begins with a scheme.
+
 ghost use Rattle.std.specs.Prelude.{◌≡◌, ◌≤◌, ◌↔◌, IsTrue, true, length};
 ghost use Rattle.std.specs.List.{prefix_len};
 ghost use Rattle.iri_resolve.specs.Scheme.{begins_with_scheme};

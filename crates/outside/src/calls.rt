@@ -1,3 +1,5 @@
+//! Which calls of a shelf or sink in memory fail.
+
 ghost use Rattle.std.specs.Prelude.{◌≡◌, ◌≤◌, ◌↔◌, IsTrue};
 ghost use Rattle.rdf_terms.specs.Lists.{In};
 ghost use Rattle.outside.specs.Faults.{one_more};

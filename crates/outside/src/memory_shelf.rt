@@ -1,3 +1,5 @@
+//! Files in memory.
+
 ghost use Rattle.std.specs.Prelude.{◌≡◌, ℕ, ◌↔◌, ◌<◌, ◌≤◌, List, [], min, length, take, IfOk, OnOk, OnErr, IsErr, None, Some, string_bytes, position};
 ghost use Rattle.std.specs.Str.{bytes_eq};
 ghost use Rattle.rdf_terms.specs.Lists.{AreDistinct};

@@ -1,3 +1,5 @@
+//! Files and writers of std.
+
 ghost use Rattle.std.specs.Prelude.{◌≡◌, ℕ, List, None, IsSome};
 
 use crate::{Failed, Shelf, Sink};

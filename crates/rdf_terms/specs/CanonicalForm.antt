@@ -1,4 +1,4 @@
--- Canonical N-Quads (RDF Dataset Canonicalization, appendix A, "A Canonical form of N-Quads"), under names for the blank nodes.
+-- Canonical N-Quads (RDF Dataset Canonicalization, appendix A, "A Canonical form of N-Quads", and section 5), under names for the blank nodes.
 use Rattle.std.specs.Prelude.{ℕ, suc, Bool, ◌||◌, ◌&&◌, ◌==◌, nat_le, nat_lt, if◌then◌else◌, List, [], ◌∷◌, ◌++◌, ◌+◌, ◌/◌, ◌%◌, map, Option, Some, None, codes}
 use Rattle.std.specs.List.{flat_map}
 use Rattle.std.specs.Str.{bytes_eq}
@@ -99,6 +99,6 @@ unfoldable pub canonical_line : Naming → Statement → Text
 canonical_line ν st =
     canonical_term ν st.subject ++ (codes " " ++ (canonical_term ν st.predicate ++ (codes " " ++ (canonical_term ν st.object ++ (codes " " ++ (canonical_graph_name ν st.graph_name ++ codes ".\n"))))))
 
--- the lines of all quads in byte order, one after the other
+-- the lines of all quads in byte order, one after the other (RDF Dataset Canonicalization, section 5)
 abbrev pub canonical_nquads : Dataset → Naming → Text
 canonical_nquads D ν = joined (sorted (map (canonical_line ν) D.statements))

@@ -98,7 +98,7 @@ pub record IsDraft (d : Document) : Type 0 where
   pub valid : All (IsValidStatement (length d.labels)) (statements d)
   pub distinct : AreDistinct (statements d)
   pub distinct_labels : AreDistinct d.labels
-  -- each term is one of a quad
+  -- each blank node among the terms is mentioned by a quad
   pub term_used : (n : ℕ) → In (Blank n) d.terms → IsUsed (statements d) n
   pub terms_bound : length d.terms ≤ 4 * length d.quads
   pub quads_bound : length d.quads ≤ 1000000000

@@ -1,3 +1,5 @@
+//! Bytes that a contract sees as a list.
+
 ghost use Rattle.std.specs.Prelude.{◌≡◌, ℕ, List};
 
 use std::marker::Model;

@@ -1,3 +1,5 @@
+//! A document while it is read.
+
 ghost use Rattle.std.specs.Prelude.{◌≡◌, ℕ, ◌<◌, ◌≤◌, ◌+◌, ◌↔◌, [], length, map, All, IfOk, OnOk, OnErr, IsTrue};
 ghost use Rattle.rdf_terms.specs.Lists.{In};
 ghost use Rattle.rdf_terms.specs.Terms.{IsValidStatement};

@@ -1,3 +1,5 @@
+//! Which nodes of a draft stand in a quad, and their numbers among these.
+
 ghost use Rattle.std.specs.Prelude.{IsTrue, EachIndex, if◌then◌else◌, [], ◌∷◌, ◌++◌, OnOk, ◌≡◌, ℕ, Bool, false, ◌<◌, ◌≤◌, ◌^◌, ◌↔◌, map, filter, length, IfOk, true, slice_index_or};
 ghost use Rattle.rdf_terms.specs.Lists.{In, AreDistinct, numbers_below};
 ghost use Rattle.rdf_terms.specs.Document.{mark_in, with_mark, marked_of};

@@ -1,3 +1,5 @@
+//! A short text in the value itself.
+
 ghost use Rattle.std.specs.Prelude.{◌≡◌, ◌≤◌, ◌↔◌, length, IsSome, IfSome};
 ghost use Rattle.rdf_terms.specs.declared.inline_text.TheConstants.{INLINE_LEN};
 

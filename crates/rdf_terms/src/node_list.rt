@@ -1,3 +1,5 @@
+//! Node numbers that a contract sees as a list.
+
 ghost use Rattle.std.specs.Prelude.{◌≡◌};
 
 use std::marker::Model;

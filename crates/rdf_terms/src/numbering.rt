@@ -1,3 +1,5 @@
+//! Statements as quads of term numbers.
+
 ghost use Rattle.std.specs.Prelude.{◌≡◌, ◌≤◌, ◌+◌, ◌*◌, length, map, Some, IfSome, IfOk, OnOk, slice_get};
 ghost use Rattle.rdf_terms.specs.Lists.{AreDistinct};
 ghost use Rattle.rdf_terms.specs.Document.{Extends, AddsAll, Numbers, NumbersAll};

@@ -1,3 +1,5 @@
+//! Pairs of nodes, and a bijection by its pairs.
+
 ghost use Rattle.std.specs.Prelude.{◌≡◌};
 
 use std::marker::Model;

@@ -1,3 +1,5 @@
+//! A document that was read whole.
+
 ghost use Rattle.std.specs.Prelude.{◌≡◌};
 ghost use Rattle.rdf_terms.specs.Document.{IsDocument};
 

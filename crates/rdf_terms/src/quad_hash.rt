@@ -1,3 +1,5 @@
+//! How a table hashes a quad.
+
 ghost use Rattle.std.specs.Prelude.{◌≡◌};
 ghost use Rattle.rdf_terms.specs.QuadHash.{graph_number, number_bytes, fed_quad, quads_fed_alike};
 

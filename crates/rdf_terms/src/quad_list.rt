@@ -1,3 +1,5 @@
+//! Quads that a contract sees as a list.
+
 ghost use Rattle.std.specs.Prelude.{◌≡◌};
 
 use crate::term::Quad;

@@ -1,3 +1,5 @@
+//! Terms by number.
+
 ghost use Rattle.std.specs.Prelude.{◌≡◌, ℕ, map, ◌<◌, ◌≤◌, ◌^◌, ◌↔◌, [], length, take, Some, IsSome, IfSome, IsNone, OnErr, IfOk, IsTrue, slice_get};
 ghost use Rattle.std.specs.Option.{option_copied};
 ghost use Rattle.rdf_terms.specs.Lists.{In, AreDistinct};

@@ -1,3 +1,5 @@
+//! Terms, literals, labels and quads.
+
 use crate::TermText;
 
 /// A term of RDF (RDF 1.1 Concepts, section 3): an IRI, a blank node or a literal.

@@ -1,3 +1,5 @@
+//! Terms whose texts lie elsewhere.
+
 ghost use Rattle.std.specs.Prelude.{◌≡◌, IfOk};
 ghost use Rattle.rdf_terms.specs.References.{kind_of, literal_of, term_of, label_of};
 ghost use Rattle.rdf_terms.specs.contracts.term.TermPartialEq.TheImpl.{eq-value as eq_term};

@@ -1,3 +1,5 @@
+//! What stands between two marks, and the marks of strings.
+
 ghost use Rattle.std.specs.Prelude.{◌≡◌};
 ghost use Rattle.terminals.specs.Spellings.{quote_mark, stands_for_itself};
 

@@ -1,3 +1,5 @@
+//! IRIs and short strings with the marks around them.
+
 ghost use Rattle.std.specs.Prelude.{◌≡◌, ◌≢◌, ◌<◌, false, IfSome, IfNone};
 ghost use Rattle.terminals.specs.Terminal.{TextBeginsWithNone};
 ghost use Rattle.terminals.specs.Spellings.{stands_for_itself};

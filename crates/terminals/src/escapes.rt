@@ -1,3 +1,5 @@
+//! Characters that are spelled by an escape.
+
 ghost use Rattle.std.specs.Prelude.{◌≡◌, ◌⊎◌, ℕ, ◌≤◌, true, length, All, IfSome, IfNone};
 ghost use Rattle.std.specs.Str.Parse.{digits_value};
 ghost use Rattle.rdf_terms.specs.Lists.{In};

@@ -1,3 +1,5 @@
+//! The first character of a text.
+
 ghost use Rattle.std.specs.Prelude.{◌≡◌, ◌≢◌, ◌<◌, ℕ, List, [], ◌∷◌, ◌++◌, encode_utf8, IfSome, IfNone};
 
 /// What follows the mark at the front, where it stands there.

@@ -1,3 +1,5 @@
+//! Labels of blank nodes.
+
 ghost use Rattle.std.specs.Prelude.{◌≡◌, ◌≤◌, length, drop, IfSome, IfNone};
 ghost use Rattle.std.specs.List.{prefix_len};
 ghost use Rattle.char_tables.specs.Classes.{is_ascii_pn};

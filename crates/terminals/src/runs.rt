@@ -1,3 +1,5 @@
+//! Characters as they are spelled between two marks.
+
 ghost use Rattle.std.specs.Prelude.{◌≡◌, ◌≤◌, ℕ, List, drop, length, string_bytes, OnOk, OnErr};
 ghost use Rattle.std.specs.List.{prefix_len};
 ghost use Rattle.terminals.specs.Spellings.{stands_for_itself, BeginsWithRun, TextSpells, IsFrontOf};
