@@ -9,8 +9,8 @@ mod ValidQuad
 mod ReadLines
 mod Used
 mod Adding
-mod OneReading
-mod Causes
+pub mod OneReading
+pub mod Causes
 mod WrittenTerminals
 mod WrittenQuads
 mod WrittenTerms
