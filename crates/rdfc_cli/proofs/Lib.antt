@@ -2,6 +2,9 @@ pub mod Reading
 pub mod Putting
 pub mod Decimals
 pub mod Noting
-pub mod NodeOrder
-pub mod Ordering
-mod HashFronts
+pub mod OptionWords
+pub mod CommandWords
+pub mod Answering
+pub mod TieNodes
+pub mod ReportTexts
+pub mod Headlines

@@ -1,9 +1,12 @@
 pub mod Statuses
-pub mod Commands
+pub mod Words
+pub mod Options
+pub mod Requests
 pub mod Puts
 pub mod Notes
 pub mod NoteParts
+pub mod Reports
 pub mod Answers
-pub mod Forms
-pub mod TextCauses
-pub mod Order
+pub mod FileFaults
+pub mod Outputs
+pub mod Headline

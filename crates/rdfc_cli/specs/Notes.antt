@@ -8,9 +8,9 @@ use Rattle.rdfc_cli.specs.Puts.{IsCutShort}
 use Rattle.nquads_reader.specs.declared.TheConstants.{MAX_QUADS}
 use Rattle.rdfc_cli.specs.declared.files.TheConstants.{FILE_LIMIT}
 use Rattle.rdfc_cli.specs.declared.status.Status.{Status}
-use Rattle.rdfc_cli.specs.declared.status.Status.TheVariants.{Done, Usage, Refused, ReadFault, WriteFault, NoMemory}
+use Rattle.rdfc_cli.specs.declared.status.Status.TheVariants.{Done, Usage, Unsettled, Refused, ReadFault, WriteFault, WorkLimit, NoMemory}
 use Rattle.rdfc_cli.specs.declared.status.Cause.{Cause}
-use Rattle.rdfc_cli.specs.declared.status.Cause.TheVariants.{TooLong, NotUtf8, BadLine, RelativeIri, TooManyQuads, EqualHashes}
+use Rattle.rdfc_cli.specs.declared.status.Cause.TheVariants.{TooLong, NotUtf8, BadLine, RelativeIri, TooManyQuads}
 
 -- what is said of a refused file, behind its word
 abbrev pub cause_text : Cause → Text
@@ -19,25 +19,30 @@ cause_text (NotUtf8 line) = codes ":" ++ (numeral line ++ codes ": not UTF-8")
 cause_text (BadLine line) = codes ":" ++ (numeral line ++ codes ": not an N-Quads line")
 cause_text (RelativeIri line) = codes ":" ++ (numeral line ++ codes ": IRI without a scheme")
 cause_text TooManyQuads = codes ": more than " ++ (numeral MAX_QUADS ++ codes " quads")
-cause_text EqualHashes = codes ": equal first-degree hashes"
 
--- what is said of a status, where this is the file's word
-abbrev pub status_text : Text → Status → Text
-status_text file Done = []
-status_text file Usage = codes "the words are not a command"
-status_text file (Refused refusal) = file ++ cause_text refusal.cause
-status_text file (ReadFault i) = file ++ codes ": read failed"
-status_text file WriteFault = codes "write failed"
-status_text file NoMemory = codes "out of memory"
+-- what is said of a status, where the files of the command have these words by their places
+abbrev pub status_text : (ℕ → Text) → Status → Text
+status_text word Done = []
+status_text word Usage = codes "the words are not a command"
+status_text word (Unsettled tie) = word 0 ++ codes ": a tie is unsettled"
+status_text word (Refused refusal) = word refusal.file ++ cause_text refusal.cause
+status_text word (ReadFault place) = word place ++ codes ": read failed"
+status_text word WriteFault = codes "write failed"
+status_text word (WorkLimit place limit) = word place ++ (codes ": work limit " ++ (numeral limit ++ codes " passed"))
+status_text word NoMemory = codes "out of memory"
 
-abbrev pub note_line : Text → Status → Text
-note_line file status = codes "rdfc: " ++ (status_text file status ++ codes "\n")
+abbrev pub note_line : (ℕ → Text) → Status → Text
+note_line word status = codes "rdfc: " ++ (status_text word status ++ codes "\n")
+
+-- what is noted of words that are no command, and so name no file
+abbrev pub usage_line : Text
+usage_line = note_line (λ place. []) Usage
 
 -- the notes have taken the line, or a proper prefix of it where a call on them failed
 abbrev pub PutsLine : {N : Type 0} → (N → Option Text) → (N → ℕ) → N → N → Text → Type 0
 PutsLine taken faults old new line = Appends (taken old) (taken new) line ⊎ (IsCutShort (taken old) (taken new) line × Rose (faults old) (faults new))
 
 -- with `Done` the notes are not used, and with each other status they were put its line
-abbrev pub IsNoted : {N : Type 0} → (N → Option Text) → (N → ℕ) → N → N → Text → Status → Type 0
-IsNoted taken faults old new file Done = new ≡ old
-IsNoted taken faults old new file status = PutsLine taken faults old new (note_line file status)
+abbrev pub IsNoted : {N : Type 0} → (N → Option Text) → (N → ℕ) → N → N → (ℕ → Text) → Status → Type 0
+IsNoted taken faults old new word Done = new ≡ old
+IsNoted taken faults old new word status = PutsLine taken faults old new (note_line word status)

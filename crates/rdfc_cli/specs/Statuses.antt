@@ -1,12 +1,14 @@
 -- The exit status of each answer.
 use Rattle.std.specs.Prelude.{ℕ}
 use Rattle.rdfc_cli.specs.declared.status.Status.{Status}
-use Rattle.rdfc_cli.specs.declared.status.Status.TheVariants.{Done, Usage, Refused, ReadFault, WriteFault, NoMemory}
+use Rattle.rdfc_cli.specs.declared.status.Status.TheVariants.{Done, Usage, Unsettled, Refused, ReadFault, WriteFault, WorkLimit, NoMemory}
 
 abbrev pub code_of : Status → ℕ
 code_of Done = 0
 code_of Usage = 2
+code_of (Unsettled tie) = 3
 code_of (Refused refusal) = 4
-code_of (ReadFault file) = 5
+code_of (ReadFault place) = 5
 code_of WriteFault = 6
+code_of (WorkLimit place limit) = 7
 code_of NoMemory = 8

@@ -1,119 +1,126 @@
-ghost use Rattle.std.specs.Prelude.{◌≡◌, ◌↔◌, ◌≤◌, [], length, map, string_bytes, All, IfOk, IfErr, IfSome};
-ghost use Rattle.rdf_terms.specs.Lists.{Text};
-ghost use Rattle.nquads_reader.specs.Document.{IsCauseOf};
-ghost use Rattle.rdf_terms.specs.Document.{statements, dataset};
-ghost use Rattle.rdfc_cli.specs.Commands.{IsCommand, IsNoCommand, file_word};
-ghost use Rattle.rdfc_cli.specs.Answers.{States, Accepts, IsOutput, seen, Stops, Answers};
-ghost use Rattle.rdfc_cli.specs.TextCauses.{IsTextCause};
-ghost use Rattle.rdfc_cli.specs.Notes.{IsNoted};
-ghost use Rattle.rdfc_cli.specs.declared.words.Task.{Task};
+//! The commands, from their words to what they write.
+ghost use Rattle.std.specs.Prelude.{◌≡◌, ◌↔◌, List, map, string_bytes, IfOk, IfErr, MatchOption};
+ghost use Rattle.outside.specs.Faults.{Rose};
+ghost use Rattle.rdfc_cli.specs.Words.{Command as SpelledCommand, Given, IsCommand, IsNoCommand, settings_in, file_word};
+ghost use Rattle.rdfc_cli.specs.Words.Command.{on_file};
+ghost use Rattle.rdfc_cli.specs.Requests.{command_of};
+ghost use Rattle.rdfc_cli.specs.Answers.{seen, IsWritten, Stops, Answers};
+ghost use Rattle.rdfc_cli.specs.FileFaults.{IsFaultStatus};
+ghost use Rattle.rdfc_cli.specs.Outputs.{Delivers, IsTaskOutput, IsRunStop};
+ghost use Rattle.rdfc_cli.specs.Notes.{IsNoted, PutsLine, usage_line};
 
-use crate::files::{FILE_LIMIT, LoadFault, load};
-use crate::form::{FormFault, text_of};
-use crate::notes::put_note;
-use crate::status::{Cause, Refusal, Status};
-use crate::words::{Command, Task, read_words};
+use crate::dataset_file::{FileFault, read_dataset};
+use crate::notes::{put_note, put_usage};
+use crate::options::Settings;
+use crate::output::{Output, task_output};
+use crate::status::{Refusal, Status};
+use crate::words::{Command, Request, Task, read_words};
 use crate::write::put_all;
 use dataset_index::Dataset;
-use nquads_reader::{ReadFault, read_nquads};
+use ndegree_hash::{Stop, Tie};
 use outside::{Shelf, Sink};
-use rdf_terms::{Bytes, NoMemory, Parsed};
 use std::alloc::Global;
 use std::hash::RandomState;
 
-fn refused(cause: Cause) -> Status
-    ensures { result ≡ Status.Refused (record { file = 0; cause = cause }) }
-{
-    Status::Refused(Refusal { file: 0, cause })
-}
-
-fn refused_by_reader(fault: ReadFault) -> Status
-    ensures { (bytes : Text) → length bytes ≤ FILE_LIMIT → IsCauseOf bytes fault → IsTextCause bytes result }
-{
-    match fault {
-        ReadFault::NotUtf8 { line } => refused(Cause::NotUtf8 { line }),
-        ReadFault::BadLine { line } => refused(Cause::BadLine { line }),
-        ReadFault::RelativeIri { line } => refused(Cause::RelativeIri { line }),
-        ReadFault::TooManyQuads => refused(Cause::TooManyQuads),
-        ReadFault::NoMemory => Status::NoMemory,
+impl FileFault {
+    // The status that it ends a run with, where it is of the file at this place of the command.
+    fn status(self, place: u8) -> Status
+        ensures { IsFaultStatus self place result }
+    {
+        match self {
+            FileFault::Failed => Status::ReadFault { file: place },
+            FileFault::Refused(cause) => Status::Refused(Refusal { file: place, cause }),
+            FileFault::NoMemory => Status::NoMemory,
+        }
     }
 }
 
-// What the bytes of a file within the limit state.
-fn read_document(alloc: Global, keys: RandomState, bytes: &[u8]) -> Result<Parsed, Status>
-    requires { length bytes.now ≤ FILE_LIMIT }
-    ensures stated { IfOk result (λ parsed. States bytes.now parsed.labels (statements parsed)) }
-    ensures cause { IfErr result (IsTextCause bytes.now) }
+// What a task writes for a dataset, or how the run stops.
+fn output_of_dataset(
+    alloc: Global,
+    task: Task,
+    settings: Settings,
+    dataset: &Dataset,
+) -> Result<Output, Status>
+    ensures output { IfOk result (IsTaskOutput task settings dataset.now) }
+    ensures stops { IfErr result (IsRunStop settings dataset.now) }
 {
-    match read_nquads(alloc, keys, bytes) {
-        Ok(parsed) => Ok(parsed),
-        Err(fault) => Err(refused_by_reader(fault)),
+    match task_output(alloc, task, settings, dataset) {
+        Ok(output) => Ok(output),
+        Err(Stop::WorkLimit) => Err(Status::WorkLimit {
+            file: 0,
+            limit: settings.limit,
+        }),
+        Err(Stop::NoMemory) => Err(Status::NoMemory),
     }
 }
 
-// The dataset of a document.
-fn dataset_of_bytes(alloc: Global, keys: RandomState, bytes: &[u8]) -> Result<Dataset, Status>
-    requires { length bytes.now ≤ FILE_LIMIT }
-    ensures accepted { IfOk result (λ d. Accepts bytes.now (dataset d)) }
-    ensures cause { IfErr result (IsTextCause bytes.now) }
-{
-    let parsed = read_document(alloc, keys, bytes)?;
-    match Dataset::build(alloc, parsed) {
-        Ok(dataset) => Ok(dataset),
-        Err(NoMemory) => Err(Status::NoMemory),
-    }
-}
-
-// Reads the file of the command whole, or says with which status the run stops.
-fn read_file<S: Shelf>(alloc: Global, shelf: &mut S, file: &str) -> Result<Vec<u8>, Status>
-    ensures whole { IfOk result (λ bytes. IfSome (S.told shelf.old file.now) (λ told. bytes.items ≡ told)) }
-    ensures within { IfOk result (λ bytes. length bytes.items ≤ FILE_LIMIT) }
-    ensures stops { IfErr result (Stops (seen S.told S.faults shelf.old shelf.new file.now)) }
-{
-    match load(alloc, shelf, file) {
-        Ok(bytes) => Ok(bytes),
-        Err(LoadFault::Failed) => Err(Status::ReadFault { file: 0 }),
-        Err(LoadFault::TooLong) => Err(refused(Cause::TooLong)),
-        Err(LoadFault::NoMemory) => Err(Status::NoMemory),
-    }
-}
-
-// The whole output of the command. It is written where the bytes of the file were.
-fn output_of<S: Shelf>(
+// What a task writes for a file.
+fn output_of_file<S: Shelf>(
     alloc: Global,
     keys: RandomState,
     task: Task,
+    settings: Settings,
     shelf: &mut S,
     file: &str,
-) -> Result<Bytes, Status>
-    ensures output { IfOk result (λ text. IfSome (S.told shelf.old file.now) (λ told. IsOutput task told text)) }
-    ensures stops { IfErr result (Stops (seen S.told S.faults shelf.old shelf.new file.now)) }
+) -> Result<Output, Status>
+    ensures output { IfOk result (λ output. IsWritten (seen S.told S.faults shelf.old shelf.new) (on_file task file.now) settings output.unsettled output.text) }
+    ensures stops { IfErr result (Stops (seen S.told S.faults shelf.old shelf.new) (on_file task file.now) settings) }
 {
-    let bytes = read_file(alloc, shelf, file)?;
-    let dataset = dataset_of_bytes(alloc, keys, &bytes)?;
-    match text_of(alloc, task, bytes, &dataset) {
-        Ok(text) => Ok(text),
-        Err(FormFault::EqualHashes) => Err(refused(Cause::EqualHashes)),
-        Err(FormFault::NoMemory) => Err(Status::NoMemory),
+    match read_dataset(alloc, keys, shelf, file) {
+        Ok(dataset) => output_of_dataset(alloc, task, settings, &dataset),
+        Err(fault) => Err(fault.status(0)),
+    }
+}
+
+fn output_of<S: Shelf>(
+    alloc: Global,
+    keys: RandomState,
+    request: Request<'_>,
+    shelf: &mut S,
+) -> Result<Output, Status>
+    ensures output { IfOk result (λ output. IsWritten (seen S.told S.faults shelf.old shelf.new) (command_of request.entry.command) request.entry.settings output.unsettled output.text) }
+    ensures stops { IfErr result (Stops (seen S.told S.faults shelf.old shelf.new) (command_of request.entry.command) request.entry.settings) }
+{
+    match request.command {
+        Command::OnFile { task, file } => output_of_file(alloc, keys, task, request.settings, shelf, file),
+    }
+}
+
+// How a run ends that was written whole.
+fn status_of(unsettled: Option<Tie>) -> Status
+    ensures { MatchOption unsettled (result ≡ Status.Done) (λ tie. result ≡ Status.Unsettled tie) }
+{
+    match unsettled {
+        None => Status::Done,
+        Some(tie) => Status::Unsettled(tie),
+    }
+}
+
+// Puts the text whole, and says how the run ends.
+fn deliver<K: Sink>(out: &mut K, output: Output) -> Status
+    ensures delivers { Delivers (K.taken out.old) (K.taken out.new) output result }
+    ensures cause { result ≡ Status.WriteFault → Rose (K.faults out.old) (K.faults out.new) }
+{
+    let Output { text, unsettled } = output;
+    match put_all(out, text.as_slice()) {
+        Ok(()) => status_of(unsettled),
+        Err(_) => Status::WriteFault,
     }
 }
 
 fn execute<S: Shelf, K: Sink>(
     alloc: Global,
     keys: RandomState,
-    command: Command<'_>,
+    request: Request<'_>,
     shelf: &mut S,
     out: &mut K,
 ) -> Status
-    ensures { Answers K.taken K.faults command.entry.task (seen S.told S.faults shelf.old shelf.new command.entry.file.now) out.old out.new result }
+    ensures { Answers K.taken K.faults (seen S.told S.faults shelf.old shelf.new) (command_of request.entry.command) request.entry.settings out.old out.new result }
 {
-    let text = match output_of(alloc, keys, command.task, shelf, command.file) {
-        Ok(text) => text,
-        Err(status) => return status,
-    };
-    match put_all(out, text.as_slice()) {
-        Ok(()) => Status::Done,
-        Err(_) => Status::WriteFault,
+    match output_of(alloc, keys, request, shelf) {
+        Ok(output) => deliver(out, output),
+        Err(status) => status,
     }
 }
 
@@ -132,19 +139,21 @@ pub fn run<S: Shelf, K: Sink, N: Sink>(
     ensures usage { result ≡ Status.Usage ↔ IsNoCommand (map string_bytes words.now) }
     ensures untouched { result ≡ Status.Usage → (shelf.new ≡ shelf.old) × (out.new ≡ out.old) }
 
-    ensures answer { (task : Task) (file : Text) → IsCommand (map string_bytes words.now) task file →
-        Answers K.taken K.faults task (seen S.told S.faults shelf.old shelf.new file) out.old out.new result }
+    ensures answer { (command : SpelledCommand) (options : List Given) → IsCommand (map string_bytes words.now) command options →
+        Answers K.taken K.faults (seen S.told S.faults shelf.old shelf.new) command (settings_in options) out.old out.new result }
 
-    ensures note { IsNoted N.taken N.faults notes.old notes.new (file_word (map string_bytes words.now)) result }
+    ensures note { (command : SpelledCommand) (options : List Given) → IsCommand (map string_bytes words.now) command options →
+        IsNoted N.taken N.faults notes.old notes.new (file_word command) result }
+    ensures note_of_usage { result ≡ Status.Usage → PutsLine N.taken N.faults notes.old notes.new usage_line }
 {
     match read_words(words) {
         None => {
-            put_note(notes, Status::Usage, "");
+            put_usage(notes);
             Status::Usage
         }
-        Some(command) => {
-            let status = execute(alloc, keys, command, shelf, out);
-            put_note(notes, status, command.file);
+        Some(request) => {
+            let status = execute(alloc, keys, request, shelf, out);
+            put_note(notes, &status, &request.command);
             status
         }
     }

@@ -1,3 +1,4 @@
+//! Decimal numerals that take no memory.
 ghost use Rattle.std.specs.Prelude.{◌≡◌};
 ghost use Rattle.rdf_terms.specs.Numeral.{numeral};
 

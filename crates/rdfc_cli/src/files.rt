@@ -1,3 +1,4 @@
+//! A file that is read whole.
 ghost use Rattle.std.specs.Prelude.{◌≡◌, ℕ, ◌<◌, ◌≤◌, List, length, vec_len, IfOk, IfSome, OnErr};
 ghost use Rattle.outside.specs.Faults.{Rose};
 ghost use Rattle.rdfc_cli.specs.declared.files.LoadFault.TheVariants.{Failed as Fault, NoMemory as Memory};
@@ -6,7 +7,7 @@ use outside::{Failed, Shelf};
 use std::alloc::{AllocError, Global};
 
 /// The most bytes that a file may have.
-pub const FILE_LIMIT: usize = 67_108_864;
+pub const FILE_LIMIT: usize = 268_435_456;
 
 // How many bytes are asked for at once.
 const BUFFER_LEN: usize = 65_536;

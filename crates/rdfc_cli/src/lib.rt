@@ -3,18 +3,21 @@
 
 pub use commands::run;
 pub use files::{FILE_LIMIT, LoadFault, load};
-pub use notes::put_note;
+pub use notes::{put_note, put_usage};
+pub use options::{DEFAULT_LIMIT, GREATEST_LIMIT, LEAST_LIMIT, Settings};
 pub use status::{Cause, Refusal, Status};
-pub use words::{Command, Task, read_words};
+pub use words::{Command, Request, Task, read_words};
 pub use write::put_all;
 
 mod commands;
+mod dataset_file;
 mod decimal;
 mod files;
-mod form;
+pub mod laws;
 mod notes;
-mod order;
-mod ranked;
+mod options;
+mod output;
+mod report;
 mod status;
 mod words;
 mod write;

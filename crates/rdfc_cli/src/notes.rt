@@ -1,14 +1,18 @@
-ghost use Rattle.std.specs.Prelude.{◌++◌, map};
+//! The line that tells of a run that did not end well.
+ghost use Rattle.std.specs.Prelude.{◌++◌, map, codes};
 ghost use Rattle.rdf_terms.specs.Lists.{joined};
 ghost use Rattle.rdf_terms.specs.Numeral.{numeral};
 ghost use Rattle.outside.specs.Faults.{HasCause};
 ghost use Rattle.rdfc_cli.specs.Puts.{Puts};
-ghost use Rattle.rdfc_cli.specs.Notes.{cause_text, status_text, note_line, IsNoted};
+ghost use Rattle.rdfc_cli.specs.Notes.{cause_text, status_text, note_line, IsNoted, PutsLine, usage_line};
+ghost use Rattle.rdfc_cli.specs.Words.{file_word};
+ghost use Rattle.rdfc_cli.specs.Requests.{command_of};
 ghost use Rattle.rdfc_cli.specs.NoteParts.{part_text};
 
 use crate::decimal::Decimal;
 use crate::files::FILE_LIMIT;
-use crate::status::{Cause, Refusal, Status};
+use crate::status::{Cause, Status};
+use crate::words::Command;
 use crate::write::put_all;
 use nquads_reader::MAX_QUADS;
 use outside::{Failed, Sink};
@@ -50,7 +54,6 @@ fn put_cause<N: Sink>(notes: &mut N, cause: Cause) -> Result<(), Failed>
         Cause::BadLine { line } => put_count(notes, ":", line, ": not an N-Quads line"),
         Cause::RelativeIri { line } => put_count(notes, ":", line, ": IRI without a scheme"),
         Cause::TooManyQuads => put_count(notes, ": more than ", MAX_QUADS, " quads"),
-        Cause::EqualHashes => put_all(notes, b": equal first-degree hashes"),
     }
 }
 
@@ -78,40 +81,82 @@ fn put_refusal<N: Sink>(notes: &mut N, file: &str, cause: Cause) -> Result<(), F
     put_cause(notes, cause)
 }
 
-fn put_status<N: Sink>(notes: &mut N, status: Status, file: &str) -> Result<(), Failed>
-    ensures bytes { Puts (N.taken notes.old) (N.taken notes.new) result (status_text file.now status) }
+// The file's word, and what is said of it.
+fn put_of_file<'a, N: Sink>(notes: &mut N, file: &'a str, said: &'a str) -> Result<(), Failed>
+    ensures bytes { Puts (N.taken notes.old) (N.taken notes.new) result (file.now ++ said.now) }
+    ensures cause { HasCause (N.faults notes.old) (N.faults notes.new) result }
+{
+    put_parts(notes, &[Part::Text(file), Part::Text(said)])
+}
+
+fn put_limit<N: Sink>(notes: &mut N, file: &str, limit: u64) -> Result<(), Failed>
+    ensures bytes { Puts (N.taken notes.old) (N.taken notes.new) result (file.now ++ (codes ": work limit " ++ (numeral limit ++ codes " passed"))) }
+    ensures cause { HasCause (N.faults notes.old) (N.faults notes.new) result }
+{
+    put_parts(
+        notes,
+        &[
+            Part::Text(file),
+            Part::Text(": work limit "),
+            Part::Number(limit),
+            Part::Text(" passed"),
+        ],
+    )
+}
+
+fn put_status<N: Sink>(
+    notes: &mut N,
+    status: &Status,
+    command: &Command<'_>,
+) -> Result<(), Failed>
+    ensures bytes { Puts (N.taken notes.old) (N.taken notes.new) result (status_text (file_word (command_of command.now)) status.now) }
     ensures cause { HasCause (N.faults notes.old) (N.faults notes.new) result }
 {
     match status {
         Status::Done => Ok(()),
         Status::Usage => put_all(notes, b"the words are not a command"),
-        Status::Refused(Refusal { cause, .. }) => put_refusal(notes, file, cause),
-        Status::ReadFault { .. } => {
-            put_parts(notes, &[Part::Text(file), Part::Text(": read failed")])
+        Status::Unsettled(_) => put_of_file(notes, command.file_word(0), ": a tie is unsettled"),
+        Status::Refused(refusal) => {
+            put_refusal(notes, command.file_word(refusal.file), refusal.cause)
+        }
+        Status::ReadFault { file } => {
+            put_of_file(notes, command.file_word(*file), ": read failed")
         }
         Status::WriteFault => put_all(notes, b"write failed"),
+        Status::WorkLimit { file, limit } => put_limit(notes, command.file_word(*file), *limit),
         Status::NoMemory => put_all(notes, b"out of memory"),
     }
 }
 
-fn put_line<N: Sink>(notes: &mut N, status: Status, file: &str) -> Result<(), Failed>
-    ensures bytes { Puts (N.taken notes.old) (N.taken notes.new) result (note_line file.now status) }
+fn put_line<N: Sink>(
+    notes: &mut N,
+    status: &Status,
+    command: &Command<'_>,
+) -> Result<(), Failed>
+    ensures bytes { Puts (N.taken notes.old) (N.taken notes.new) result (note_line (file_word (command_of command.now)) status.now) }
     ensures cause { HasCause (N.faults notes.old) (N.faults notes.new) result }
 {
     put_all(notes, b"rdfc: ")?;
-    put_status(notes, status, file)?;
+    put_status(notes, status, command)?;
     put_all(notes, b"\n")
 }
 
-/// Puts the line that tells of a status, in parts, and none for `Done`. The first call that fails ends the note.
-/// `file` is the word of the file that the status speaks of. Takes no memory.
-pub fn put_note<N: Sink>(notes: &mut N, status: Status, file: &str)
-    ensures { IsNoted N.taken N.faults notes.old notes.new file.now status }
+/// Puts the line that tells of a status of this command, in parts, and none for `Done`. The first call that fails ends
+/// the note. Takes no memory.
+pub fn put_note<N: Sink>(notes: &mut N, status: &Status, command: &Command<'_>)
+    ensures { IsNoted N.taken N.faults notes.old notes.new (file_word (command_of command.now)) status.now }
 {
     match status {
         Status::Done => {}
         _ => {
-            let _ = put_line(notes, status, file);
+            let _ = put_line(notes, status, command);
         }
     }
+}
+
+/// Puts the line that tells of words that are no command. Takes no memory.
+pub fn put_usage<N: Sink>(notes: &mut N)
+    ensures { PutsLine N.taken N.faults notes.old notes.new usage_line }
+{
+    let _ = put_all(notes, b"rdfc: the words are not a command\n");
 }

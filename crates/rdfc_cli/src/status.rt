@@ -1,14 +1,22 @@
+//! How a run ends.
 ghost use Rattle.std.specs.Prelude.{◌≡◌};
 ghost use Rattle.rdfc_cli.specs.Statuses.{code_of};
 
+use ndegree_hash::Tie;
+
 /// How a run ended. `file` is 0 for the first file of the command.
-#[derive(Clone, Copy, Debug, PartialEq, Eq)]
+#[derive(Debug, Drop)]
 pub enum Status {
     Done,
     Usage,
+    /// The whole text was written, and this is the first tie that no symmetry joins: the standard may allow another
+    /// text (RDF Dataset Canonicalization, section 4.4).
+    Unsettled(Tie),
     Refused(Refusal),
     ReadFault { file: u8 },
     WriteFault,
+    /// The canonicalization takes more units than `limit`.
+    WorkLimit { file: u8, limit: u64 },
     NoMemory,
 }
 
@@ -27,8 +35,6 @@ pub enum Cause {
     BadLine { line: u64 },
     RelativeIri { line: u64 },
     TooManyQuads,
-    /// Two nodes have the same first-degree hash (RDF Dataset Canonicalization, section 4.6).
-    EqualHashes,
 }
 
 impl Status {
@@ -39,9 +45,11 @@ impl Status {
         match self {
             Status::Done => 0,
             Status::Usage => 2,
+            Status::Unsettled(_) => 3,
             Status::Refused(_) => 4,
             Status::ReadFault { .. } => 5,
             Status::WriteFault => 6,
+            Status::WorkLimit { .. } => 7,
             Status::NoMemory => 8,
         }
     }

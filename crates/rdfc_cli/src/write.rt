@@ -1,3 +1,4 @@
+//! Bytes that are put whole.
 ghost use Rattle.outside.specs.Faults.{HasCause};
 ghost use Rattle.rdfc_cli.specs.Puts.{Puts};
 

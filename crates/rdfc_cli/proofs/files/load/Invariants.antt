@@ -9,8 +9,8 @@ invariant-loop-shelf g l = record {
   told : (other : List ℕ) → g.S.Shelf.told l.shelf other ≡ g.S.Shelf.told l.fn.shelf other;
   never_fell : (other : List ℕ) → g.S.Shelf.faults l.fn.shelf other ≤ g.S.Shelf.faults l.shelf other;
   buffer : vec_len l.buf ≡ 65536;
-  within : vec_len l.bytes ≤ 67174400;
+  within : vec_len l.bytes ≤ 268500992;
 }
 
 abbrev pub decreases-loop-shelf : goal.decreases-loop-shelf
-decreases-loop-shelf g l = 67174401 - vec_len l.bytes
+decreases-loop-shelf g l = 268500993 - vec_len l.bytes

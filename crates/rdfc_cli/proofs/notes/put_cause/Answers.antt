@@ -11,6 +11,3 @@ returns-in-RelativeIri-clause-bytes g c = rw c.in-RelativeIri.is c.put_count-in-
 
 pub returns-in-TooManyQuads-clause-bytes : goal.returns-in-TooManyQuads-clause-bytes
 returns-in-TooManyQuads-clause-bytes g c = rw c.in-TooManyQuads.is c.put_count-in-TooManyQuads.ensures.bytes
-
-pub returns-in-EqualHashes-clause-bytes : goal.returns-in-EqualHashes-clause-bytes
-returns-in-EqualHashes-clause-bytes g c = rw c.in-EqualHashes.is c.put_all.ensures.bytes

@@ -1,4 +1,4 @@
 use Rattle.rdfc_cli.proofs.notes.put_status.Goals as goal
 
 pub returns-in-ReadFault-clause-bytes : goal.returns-in-ReadFault-clause-bytes
-returns-in-ReadFault-clause-bytes g c = rw c.in-ReadFault.is c.put_parts.ensures.bytes
+returns-in-ReadFault-clause-bytes g c = rw (c.in-ReadFault.is, ← c.file_word-in-ReadFault.ensures) c.put_of_file-in-ReadFault.ensures.bytes

@@ -1,0 +1,261 @@
+-- Options as words: how they are spelled tells which they are, and where they end.
+use Rattle.std.proofs.Common.{◌≡◌, ℕ, zero, suc, true, false, List, [], ◌∷◌, ◌++◌, Some, None, Option, IfNone, map, codes, inl, inr, get_or, drop, length, if◌then◌else◌, ◌==◌, refl, sym, ap, ◌∙◌, subst, append_assoc, append-nil, arith}
+use Rattle.std.specs.Prelude.{flat_map}
+use Rattle.rdf_terms.specs.Lists.{Text, In, AreDistinct}
+use Rattle.rdf_terms.proofs.Membership.{In-append}
+use Rattle.rdf_terms.proofs.Numerals.{numeral-injective}
+use Rattle.canon_model.specs.declared.profile.HashKind.{HashKind}
+use Rattle.canon_model.specs.declared.profile.HashKind.TheVariants.{Sha256, Sha384}
+use Rattle.canon_model.specs.declared.profile.Related.{Related as Reading}
+use Rattle.canon_model.specs.declared.profile.Related.TheVariants.{Each, Once}
+use Rattle.rdfc_cli.specs.Words.{Given, name_word, option_name, option_value, hash_word, related_word, spelled_option, HasGoodValue}
+use Rattle.rdfc_cli.specs.Words.Given.{limit, hash, related}
+use Rattle.rdfc_cli.specs.Options.{options_in, with_option, IsNew, MayFollow, Adds, BeginsNoOption, BeginsWithName, HasValue, BeginsWithOptions, AreOptions, AreNoOptions}
+use Rattle.rdfc_cli.specs.declared.options.Options.{Options}
+use Rattle.rdfc_cli.specs.declared.options.OptionName.{OptionName}
+use Rattle.rdfc_cli.specs.declared.options.OptionName.TheVariants.{Limit, Hash, Related}
+
+-- what holds at any rate
+pub if_none : {A P : Type 0} (o : Option A) → P → IfNone o P
+if_none None p = p
+if_none (Some x) p = tt
+
+-- ---- words
+
+pub head_same : {A : Type 0} (x y : A) (xs ys : List A) → x ∷ xs ≡ y ∷ ys → x ≡ y
+head_same x y xs ys e = ap (λ l. get_or l 0 x) e
+
+pub tail_same : {A : Type 0} (x y : A) (xs ys : List A) → x ∷ xs ≡ y ∷ ys → xs ≡ ys
+tail_same x y xs ys e = ap (λ l. drop 1 l) e
+
+pub not_empty : {A : Type 0} (x : A) (xs : List A) → ¬ ([] ≡ x ∷ xs)
+not_empty x xs e = let lengths : 0 ≡ suc (length xs) = ap length e in omega arith
+
+-- the bytes of two texts at one place
+at_place : (i : ℕ) (s t : Text) → s ≡ t → get_or s i 0 ≡ get_or t i 0
+at_place i s t e = ap (λ l. get_or l i 0) e
+
+-- the byte behind the two dashes tells an option's name
+name_at : ℕ → OptionName
+name_at byte = if byte == 108 then Limit else if byte == 104 then Hash else Related
+
+name_of_word : (m : OptionName) → name_at (get_or (name_word m) 2 0) ≡ m
+unfolding name_at
+name_of_word Limit = refl
+name_of_word Hash = refl
+name_of_word Related = refl
+
+pub name_word-injective : (m n : OptionName) → name_word m ≡ name_word n → m ≡ n
+name_word-injective m n e = sym (name_of_word m) ∙ ap name_at (at_place 2 (name_word m) (name_word n) e) ∙ name_of_word n
+
+hash_at : ℕ → HashKind
+hash_at byte = if byte == 50 then Sha256 else Sha384
+
+hash_of_word : (m : HashKind) → hash_at (get_or (hash_word m) 3 0) ≡ m
+unfolding hash_at
+hash_of_word Sha256 = refl
+hash_of_word Sha384 = refl
+
+hash_word-injective : (m n : HashKind) → hash_word m ≡ hash_word n → m ≡ n
+hash_word-injective m n e = sym (hash_of_word m) ∙ ap hash_at (at_place 3 (hash_word m) (hash_word n) e) ∙ hash_of_word n
+
+reading_at : ℕ → Reading
+reading_at byte = if byte == 101 then Each else Once
+
+reading_of_word : (m : Reading) → reading_at (get_or (related_word m) 0 0) ≡ m
+unfolding reading_at
+reading_of_word Each = refl
+reading_of_word Once = refl
+
+related_word-injective : (m n : Reading) → related_word m ≡ related_word n → m ≡ n
+related_word-injective m n e = sym (reading_of_word m) ∙ ap reading_at (at_place 0 (related_word m) (related_word n) e) ∙ reading_of_word n
+
+-- options of one name and one value are one
+same_option : (g h : Given) → option_name g ≡ option_name h → option_value g ≡ option_value h → g ≡ h
+same_option (limit m) (limit n) e v = ap limit (numeral-injective m n v)
+same_option (limit m) (hash k) e v = cc
+same_option (limit m) (related r) e v = cc
+same_option (hash k) (limit n) e v = cc
+same_option (hash k) (hash l) e v = ap hash (hash_word-injective k l v)
+same_option (hash k) (related r) e v = cc
+same_option (related r) (limit n) e v = cc
+same_option (related r) (hash k) e v = cc
+same_option (related r) (related s) e v = ap related (related_word-injective r s v)
+
+-- ---- lists of options that are spelled alike
+
+same_spelled : (g h : Given) (words more : List Text) → spelled_option g ++ words ≡ spelled_option h ++ more → (g ≡ h) × (words ≡ more)
+same_spelled g h words more e =
+    let name = head_same (name_word (option_name g)) (name_word (option_name h)) (option_value g ∷ words) (option_value h ∷ more) e in
+    let behind = tail_same (name_word (option_name g)) (name_word (option_name h)) (option_value g ∷ words) (option_value h ∷ more) e in
+    (same_option g h (name_word-injective (option_name g) (option_name h) name) (head_same (option_value g) (option_value h) words more behind), tail_same (option_value g) (option_value h) words more behind)
+
+pub begins_option : (g : Given) (words more : List Text) → BeginsNoOption more → ¬ (spelled_option g ++ words ≡ more)
+begins_option g words [] none e = not_empty (name_word (option_name g)) (option_value g ∷ words) (sym e)
+begins_option g words (w ∷ ws) none e = none (option_name g) (head_same w (name_word (option_name g)) ws (option_value g ∷ words) (sym e))
+
+-- the one list goes on where the other ends
+pub record GoesOn (given other : List Given) (rest more : List Text) : Type 0 where
+  pub behind : List Given
+  pub other_is : other ≡ given ++ behind
+  pub rest_is : rest ≡ flat_map spelled_option behind ++ more
+
+pub goes_on : (given other : List Given) (rest more : List Text) → BeginsNoOption more → flat_map spelled_option given ++ rest ≡ flat_map spelled_option other ++ more → GoesOn given other rest more
+goes_on [] other rest more none e = record { behind = other; other_is = refl; rest_is = e }
+goes_on (g ∷ gs) [] rest more none e = absurd (begins_option g (flat_map spelled_option gs ++ rest) more none e)
+goes_on (g ∷ gs) (h ∷ hs) rest more none e =
+    let s = same_spelled g h (flat_map spelled_option gs ++ rest) (flat_map spelled_option hs ++ more) e in
+    let r = goes_on gs hs rest more none s.1 in
+    record { behind = r.behind; other_is = (λ i. sym s.0 i ∷ r.other_is i); rest_is = r.rest_is }
+
+no_more_behind : (behind : List Given) (rest more : List Text) → BeginsNoOption rest → rest ≡ flat_map spelled_option behind ++ more → (behind ≡ []) × (rest ≡ more)
+no_more_behind [] rest more none e = (refl, e)
+no_more_behind (g ∷ gs) rest more none e = absurd (begins_option g (flat_map spelled_option gs ++ more) rest none (sym e))
+
+-- both lists end before a word that is no option's name, so they are one
+pub same_options : (given other : List Given) (rest more : List Text) → BeginsNoOption rest → BeginsNoOption more → flat_map spelled_option given ++ rest ≡ flat_map spelled_option other ++ more
+    → (other ≡ given) × (rest ≡ more)
+same_options given other rest more none not e =
+    let g = goes_on given other rest more not e in
+    let n = no_more_behind g.behind rest more none g.rest_is in
+    (g.other_is ∙ ap (λ b. given ++ b) n.0 ∙ append-nil given, n.1)
+
+-- ---- an option that was read before
+
+name_there : (given : List Given) (g : Given) → IsNew (options_in given) g → ¬ (In (option_name g) (map option_name given))
+name_there [] g new i = i
+name_there (limit m ∷ gs) (limit n) new i = cc
+name_there (limit m ∷ gs) (hash k) new (inl e) = cc
+name_there (limit m ∷ gs) (hash k) new (inr i) = name_there gs (hash k) new i
+name_there (limit m ∷ gs) (related r) new (inl e) = cc
+name_there (limit m ∷ gs) (related r) new (inr i) = name_there gs (related r) new i
+name_there (hash l ∷ gs) (limit n) new (inl e) = cc
+name_there (hash l ∷ gs) (limit n) new (inr i) = name_there gs (limit n) new i
+name_there (hash l ∷ gs) (hash k) new i = cc
+name_there (hash l ∷ gs) (related r) new (inl e) = cc
+name_there (hash l ∷ gs) (related r) new (inr i) = name_there gs (related r) new i
+name_there (related s ∷ gs) (limit n) new (inl e) = cc
+name_there (related s ∷ gs) (limit n) new (inr i) = name_there gs (limit n) new i
+name_there (related s ∷ gs) (hash k) new (inl e) = cc
+name_there (related s ∷ gs) (hash k) new (inr i) = name_there gs (hash k) new i
+name_there (related s ∷ gs) (related r) new i = cc
+
+new_name : (given : List Given) (g : Given) → ¬ (In (option_name g) (map option_name given)) → IsNew (options_in given) g
+new_name [] (limit n) none = refl
+new_name [] (hash k) none = refl
+new_name [] (related r) none = refl
+new_name (limit m ∷ gs) (limit n) none = absurd (none (inl refl))
+new_name (limit m ∷ gs) (hash k) none = new_name gs (hash k) (λ i. none (inr i))
+new_name (limit m ∷ gs) (related r) none = new_name gs (related r) (λ i. none (inr i))
+new_name (hash l ∷ gs) (limit n) none = new_name gs (limit n) (λ i. none (inr i))
+new_name (hash l ∷ gs) (hash k) none = absurd (none (inl refl))
+new_name (hash l ∷ gs) (related r) none = new_name gs (related r) (λ i. none (inr i))
+new_name (related s ∷ gs) (limit n) none = new_name gs (limit n) (λ i. none (inr i))
+new_name (related s ∷ gs) (hash k) none = new_name gs (hash k) (λ i. none (inr i))
+new_name (related s ∷ gs) (related r) none = absurd (none (inl refl))
+
+-- what a new option adds to those before it
+options_in-push : (given : List Given) (g : Given) → IsNew (options_in given) g → options_in (given ++ g ∷ []) ≡ with_option (options_in given) g
+options_in-push [] (limit n) new = refl
+options_in-push [] (hash k) new = refl
+options_in-push [] (related r) new = refl
+options_in-push (limit m ∷ gs) (limit n) new = cc
+options_in-push (limit m ∷ gs) (hash k) new = ap (λ o. with_option o (limit m)) (options_in-push gs (hash k) new)
+options_in-push (limit m ∷ gs) (related r) new = ap (λ o. with_option o (limit m)) (options_in-push gs (related r) new)
+options_in-push (hash l ∷ gs) (limit n) new = ap (λ o. with_option o (hash l)) (options_in-push gs (limit n) new)
+options_in-push (hash l ∷ gs) (hash k) new = cc
+options_in-push (hash l ∷ gs) (related r) new = ap (λ o. with_option o (hash l)) (options_in-push gs (related r) new)
+options_in-push (related s ∷ gs) (limit n) new = ap (λ o. with_option o (related s)) (options_in-push gs (limit n) new)
+options_in-push (related s ∷ gs) (hash k) new = ap (λ o. with_option o (related s)) (options_in-push gs (hash k) new)
+options_in-push (related s ∷ gs) (related r) new = cc
+
+distinct_before : (given more : List Given) (g : Given) → AreDistinct (map option_name (given ++ g ∷ more)) → ¬ (In (option_name g) (map option_name given))
+distinct_before [] more g d i = i
+distinct_before (h ∷ hs) more g d (inl e) = d.0 (there hs)
+  where
+    there : (xs : List Given) → In (option_name h) (map option_name (xs ++ g ∷ more))
+    there [] = inl (sym e)
+    there (x ∷ xs) = inr (there xs)
+distinct_before (h ∷ hs) more g d (inr i) = distinct_before hs more g d.1 i
+
+distinct_push : (given : List Given) (g : Given) → AreDistinct (map option_name given) → ¬ (In (option_name g) (map option_name given)) → AreDistinct (map option_name (given ++ g ∷ []))
+distinct_push [] g d none = (λ i. i, tt)
+distinct_push (h ∷ hs) g d none = (λ i. first hs d.0 (λ j. none (inr j)) i, distinct_push hs g d.1 (λ i. none (inr i)))
+  where
+    first : (xs : List Given) → ¬ (In (option_name h) (map option_name xs)) → ¬ (In (option_name g) (map option_name xs)) → ¬ (In (option_name h) (map option_name (xs ++ g ∷ [])))
+    first [] a b (inl e) = none (inl (sym e))
+    first [] a b (inr i) = i
+    first (x ∷ xs) a b (inl e) = a (inl e)
+    first (x ∷ xs) a b (inr i) = first xs (λ j. a (inr j)) (λ j. b (inr j)) i
+
+-- ---- one option after the other
+
+flat_map-push : (given : List Given) (g : Given) (rest : List Text) → flat_map spelled_option (given ++ g ∷ []) ++ rest ≡ flat_map spelled_option given ++ (spelled_option g ++ rest)
+flat_map-push [] g rest = refl
+flat_map-push (h ∷ hs) g rest = ap (λ ws. spelled_option h ++ ws) (flat_map-push hs g rest)
+
+good_push : (given : List Given) (g : Given) → ((h : Given) → In h given → HasGoodValue h) → HasGoodValue g → (h : Given) → In h (given ++ g ∷ []) → HasGoodValue h
+good_push given g all one h i = elim (In-append given (g ∷ []) h i) [ inl j ↦ all h j | inr j ↦ last j ]
+  where
+    last : In h (g ∷ []) → HasGoodValue h
+    last (inl e) = subst HasGoodValue (sym e) one
+    last (inr j) = absurd j
+
+-- the options that were read are these, and these words follow them
+pub record HasRead (words : List Text) (options : Options) (rest : List Text) : Type 0 where
+  pub given : List Given
+  pub begins : BeginsWithOptions words given rest
+  pub options_are : options ≡ options_in given
+
+pub has_read-none : (words : List Text) → HasRead words (options_in []) words
+has_read-none words = record { given = []; begins = record { spelled = refl; once = tt; good = λ g i. absurd i }; options_are = refl }
+
+pub has_read-more : (words : List Text) (options new : Options) (name value : Text) (rest : List Text) → HasRead words options (name ∷ value ∷ rest) → Adds options new name value → HasRead words new rest
+has_read-more words options new name value rest r a =
+    let g = a.given in
+    let fresh : IsNew (options_in r.given) g = subst (λ o. IsNew o g) r.options_are a.follows.new in
+    record {
+      given = r.given ++ g ∷ [];
+      begins = record {
+        spelled = r.begins.spelled ∙ ap (λ ws. flat_map spelled_option r.given ++ ws) (sym (ap (λ ws. ws ++ rest) a.follows.spelled)) ∙ sym (flat_map-push r.given g rest);
+        once = distinct_push r.given g r.begins.once (name_there r.given g fresh);
+        good = good_push r.given g r.begins.good a.follows.good;
+      };
+      options_are = a.new_is ∙ ap (λ o. with_option o g) r.options_are ∙ sym (options_in-push r.given g fresh);
+    }
+
+-- the option's name is next, and its value behind it
+pub has_read-next : (words : List Text) (options new : Options) (name : OptionName) (rest : List Text) (value : Text) (behind : List Text) → HasRead words options rest → BeginsWithName rest name → HasValue rest value behind
+    → Adds options new (name_word name) value → HasRead words new behind
+has_read-next words options new name rest value behind r b v a =
+    let at_name : BeginsWithName (v.first ∷ value ∷ behind) name = subst (λ ws. BeginsWithName ws name) v.words_are b in
+    let spelled : rest ≡ name_word name ∷ value ∷ behind = v.words_are ∙ ap (λ w. w ∷ value ∷ behind) at_name in
+    has_read-more words options new (name_word name) value behind (subst (HasRead words options) spelled r) a
+
+-- an option's name is next, and no option with that name and the next word as its value may follow
+pub no_options : (words : List Text) (options : Options) (rest : List Text) (name : OptionName) → HasRead words options rest → BeginsWithName rest name
+    → ((g : Given) (value : Text) (more : List Text) → HasValue rest value more → ¬ (MayFollow options g (name_word name) value)) → AreNoOptions words
+no_options words options [] name r b none other more not c = absurd b
+no_options words options (w ∷ ws) name r b none other more not c =
+    let g = goes_on r.given other (w ∷ ws) more not (sym r.begins.spelled ∙ c.spelled) in
+    next g.behind g.other_is g.rest_is
+  where
+    next : (behind : List Given) → other ≡ r.given ++ behind → w ∷ ws ≡ flat_map spelled_option behind ++ more → ⊥
+    next [] o e = subst BeginsNoOption (sym e) not name b
+    next (g ∷ gs) o e = none g (option_value g) (flat_map spelled_option gs ++ more) (record { first = name_word (option_name g); words_are = e }) (record {
+      spelled = ap (λ n. n ∷ option_value g ∷ []) name_is;
+      good = c.good g (subst (λ l. In g l) (sym o) (there r.given));
+      new = subst (λ p. IsNew p g) (sym r.options_are) (new_name r.given g (distinct_before r.given gs g (subst (λ l. AreDistinct (map option_name l)) o c.once)));
+    })
+      where
+        name_is : name_word (option_name g) ≡ name_word name
+        name_is = sym (head_same w (name_word (option_name g)) ws (option_value g ∷ (flat_map spelled_option gs ++ more)) e) ∙ b
+
+        there : (xs : List Given) → In g (xs ++ g ∷ gs)
+        there [] = inl refl
+        there (x ∷ xs) = inr (there xs)
+
+-- two words behind the options are one value
+pub one_value : (rest : List Text) (value other : Text) (behind more : List Text) → HasValue rest value behind → HasValue rest other more → value ≡ other
+one_value rest value other behind more v w =
+    head_same value other behind more (tail_same v.first w.first (value ∷ behind) (other ∷ more) (sym v.words_are ∙ w.words_are))

@@ -1,0 +1,30 @@
+-- Why a file gave no dataset, and what it says where it did.
+use Rattle.std.specs.Prelude.{◌≡◌, ℕ, IfSome}
+use Rattle.rdf_terms.specs.Lists.{Text}
+use Rattle.rdf_terms.specs.Document.{Document, dataset}
+use Rattle.outside.specs.Faults.{Rose}
+use Rattle.rdfc_cli.specs.declared.status.Status.{Status}
+use Rattle.rdfc_cli.specs.declared.status.Status.TheVariants.{Refused as RefusedStatus, ReadFault, NoMemory as NoMemoryStatus}
+use Rattle.rdfc_cli.specs.Answers.{Content, FileSeen, IsCause}
+use Rattle.rdfc_cli.specs.declared.dataset_file.FileFault.{FileFault}
+use Rattle.rdfc_cli.specs.declared.dataset_file.FileFault.TheVariants.{Failed, Refused, NoMemory}
+
+abbrev pub content_of : Document → Content
+content_of d = record { dataset = dataset d; labels = d.labels }
+
+abbrev pub IsFileFault : FileSeen → FileFault → Type 0
+IsFileFault file Failed = Rose file.faults file.faults_now
+IsFileFault file (Refused cause) = IfSome file.told (λ bytes. IsCause bytes cause)
+IsFileFault file NoMemory = Unit {0}
+
+-- the same of the bytes alone, which were read whole
+abbrev pub IsTextFault : Text → FileFault → Type 0
+IsTextFault bytes Failed = ⊥
+IsTextFault bytes (Refused cause) = IsCause bytes cause
+IsTextFault bytes NoMemory = Unit {0}
+
+-- the status that the fault of the file at this place ends a run with
+abbrev pub IsFaultStatus : FileFault → ℕ → Status → Type 0
+IsFaultStatus Failed place status = status ≡ ReadFault place
+IsFaultStatus (Refused cause) place status = status ≡ RefusedStatus (record { file = place; cause = cause })
+IsFaultStatus NoMemory place status = status ≡ NoMemoryStatus

@@ -1,0 +1,32 @@
+-- A text that is ready to be written, and what the run that it comes from found.
+use Rattle.std.specs.Prelude.{◌≡◌, Option, Some, None}
+use Rattle.std.specs.Io.KnownBytes.{Appends}
+use Rattle.rdf_terms.specs.Lists.{Text}
+use Rattle.rdf_terms.specs.Document.{Document, dataset}
+use Rattle.ndegree_hash.specs.declared.tie.Tie.{Tie}
+use Rattle.rdfc_cli.specs.Puts.{IsCutShort}
+use Rattle.rdfc_cli.specs.Reports.{IsTextOf}
+use Rattle.canon_model.specs.Output.{PassesLimit}
+use Rattle.rdfc_cli.specs.Answers.{IsRunText, hashing_of}
+use Rattle.rdfc_cli.specs.declared.options.Settings.{Settings}
+use Rattle.rdfc_cli.specs.declared.output.Output.{Output}
+use Rattle.rdfc_cli.specs.declared.words.Task.{Task}
+use Rattle.rdfc_cli.specs.declared.status.Status.{Status}
+use Rattle.rdfc_cli.specs.declared.status.Status.TheVariants.{Done, Unsettled, WriteFault, WorkLimit, NoMemory}
+
+-- the output of a task for the dataset of this document
+abbrev pub IsTaskOutput : Task → Settings → Document → Output → Type 0
+IsTaskOutput task settings d output = IsRunText settings output.unsettled (λ ρ. IsTextOf task ρ (dataset d) d.labels) (dataset d) output.text
+
+-- what was taken of the output, by the status
+abbrev pub Delivers : Option Text → Option Text → Output → Status → Type 0
+Delivers before now output Done = (output.unsettled ≡ None) × Appends before now output.text
+Delivers before now output (Unsettled tie) = (output.unsettled ≡ Some tie) × Appends before now output.text
+Delivers before now output WriteFault = IsCutShort before now output.text
+Delivers before now output status = ⊥
+
+-- why there is no output of the dataset of this document
+abbrev pub IsRunStop : Settings → Document → Status → Type 0
+IsRunStop settings d (WorkLimit place limit) = (place ≡ 0) × (limit ≡ settings.limit) × PassesLimit (hashing_of settings) (dataset d) settings.limit
+IsRunStop settings d NoMemory = Unit {0}
+IsRunStop settings d status = ⊥

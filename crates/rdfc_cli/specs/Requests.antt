@@ -1,0 +1,23 @@
+-- What the words of a command line were read as.
+use Rattle.std.specs.Prelude.{◌≡◌, List}
+use Rattle.rdf_terms.specs.Lists.{Text}
+use Rattle.rdfc_cli.specs.Words.{Command, Given, IsCommand, settings_in, command_word, operands, HasGoodOperands}
+use Rattle.rdfc_cli.specs.Words.Command.{on_file}
+use Rattle.rdfc_cli.specs.declared.words.Command.{Command as ReadCommand}
+use Rattle.rdfc_cli.specs.declared.words.Command.TheVariants.{OnFile}
+use Rattle.rdfc_cli.specs.declared.words.Request.{Request}
+
+abbrev pub command_of : ReadCommand → Command
+command_of (OnFile task file) = on_file task file.now
+
+-- the words are this command, with options that set this
+pub record IsRequest (words : List Text) (request : Request) : Type 0 where
+  pub options : List Given
+  pub is_command : IsCommand words (command_of request.command) options
+  pub settings_are : request.settings ≡ settings_in options
+
+-- the word and those behind the options are this command
+pub record IsSpelled (word : Text) (behind : List Text) (command : Command) : Type 0 where
+  pub word_is : word ≡ command_word command
+  pub operands_are : behind ≡ operands command
+  pub good : HasGoodOperands command
