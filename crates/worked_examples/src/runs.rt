@@ -1,12 +1,12 @@
-// What a run answers, writes and notes, over a shelf and sinks in memory.
+//! What a run answers, writes and notes, over a shelf and sinks in memory.
 use outside::{MemShelf, MemSink};
-use rdfc_cli::{Cause, Refusal, Status, run};
+use rdfc_cli::{Status, run};
 use std::alloc::Global;
 use std::hash::RandomState;
 use std::process::Abort;
 use std::test::Fail;
 
-const ROOM: usize = 1000;
+const ROOM: usize = 4000;
 
 // A run on the file `f` of this text, in pieces of 7 bytes: the words, the calls on the shelf and
 // on the output that fail, and those on the notes.
@@ -33,8 +33,98 @@ _:c14n0 <http://example.com/#s> <http://example.com/#u> .
 _:c14n1 <http://example.com/#t> <http://example.com/#u> .
 ";
 
-// The SHA-256 of no bytes, and a line feed.
+// The SHA-256 of no bytes, and a line feed; and the SHA-384.
 const HASH_OF_NOTHING: &str = "e3b0c44298fc1c149afbf4c8996fb92427ae41e4649b934ca495991b7852b855
+";
+const LONG_HASH_OF_NOTHING: &str = "38b060a751ac96384cd9327eb1b1e36a21fdb71114be07434c0cc7bf63f6e1da274edebfe76f65fbd51ad2f14898b95b
+";
+
+// Two nodes that point at each other.
+const PAIR: &str = "_:a <e:p> _:b .
+_:b <e:p> _:a .
+";
+
+const NAMED_PAIR: &str = "_:c14n0 <e:p> _:c14n1 .
+_:c14n1 <e:p> _:c14n0 .
+";
+
+// The same in two graphs.
+const PAIR_TWICE: &str = "_:a <e:p> _:b <e:g> .
+_:b <e:p> _:a <e:g> .
+_:a <e:p> _:b <e:h> .
+_:b <e:p> _:a <e:h> .
+";
+
+// Two nodes that each point at themselves.
+const LOOPS: &str = "_:a <e:p> _:a .
+_:b <e:p> _:b .
+";
+
+// Each of five nodes points at each other one.
+const FIVE: &str = "_:a <e:p> _:b .
+_:a <e:p> _:c .
+_:a <e:p> _:d .
+_:a <e:p> _:e .
+_:b <e:p> _:a .
+_:b <e:p> _:c .
+_:b <e:p> _:d .
+_:b <e:p> _:e .
+_:c <e:p> _:a .
+_:c <e:p> _:b .
+_:c <e:p> _:d .
+_:c <e:p> _:e .
+_:d <e:p> _:a .
+_:d <e:p> _:b .
+_:d <e:p> _:c .
+_:d <e:p> _:e .
+_:e <e:p> _:a .
+_:e <e:p> _:b .
+_:e <e:p> _:c .
+_:e <e:p> _:d .
+";
+
+// Each of three nodes points at each other one, in two graphs.
+const THREE_TWICE: &str = "_:a <e:p> _:b <e:g> .
+_:a <e:p> _:c <e:g> .
+_:b <e:p> _:a <e:g> .
+_:b <e:p> _:c <e:g> .
+_:c <e:p> _:a <e:g> .
+_:c <e:p> _:b <e:g> .
+_:a <e:p> _:b <e:h> .
+_:a <e:p> _:c <e:h> .
+_:b <e:p> _:a <e:h> .
+_:b <e:p> _:c <e:h> .
+_:c <e:p> _:a <e:h> .
+_:c <e:p> _:b <e:h> .
+";
+
+// Four quads, of which the standard allows two canonical forms.
+const FOUR: &str = "_:s0 <e:p> _:o0 _:g0 .
+_:s0 <e:p> _:o1 _:g1 .
+_:s1 <e:p> _:o0 _:g1 .
+_:s1 <e:p> _:o1 _:g0 .
+";
+
+// Three quads, of which the standard allows two canonical forms.
+const TURNED: &str = "_:a <e:p> _:b _:c .
+_:b <e:p> _:c _:a .
+_:c <e:p> _:a _:b .
+";
+
+// A ring of six nodes, and two of three.
+const RING: &str = "_:a <e:p> _:b .
+_:b <e:p> _:c .
+_:c <e:p> _:d .
+_:d <e:p> _:e .
+_:e <e:p> _:f .
+_:f <e:p> _:a .
+";
+const TWO_RINGS: &str = "_:a <e:p> _:b .
+_:b <e:p> _:c .
+_:c <e:p> _:a .
+_:d <e:p> _:e .
+_:e <e:p> _:f .
+_:f <e:p> _:d .
 ";
 
 // How a run ended, and what it wrote and noted.
@@ -64,32 +154,32 @@ fn outcome_of(alloc: Global, keys: RandomState, case: &Case<'_>) -> Result<Ended
     Ok(Ended { status, out, notes })
 }
 
-// How a run has to end: its status, what it writes and what it notes.
+// How a run has to end: the code of its status, what it writes and what it notes.
 #[derive(Clone, Copy)]
 struct Ending<'a> {
-    status: Status,
+    code: u8,
     out: &'a str,
     notes: &'a str,
 }
 
 fn done(out: &str) -> Ending<'_> {
     Ending {
-        status: Status::Done,
+        code: 0,
         out,
         notes: "",
     }
 }
 
-fn nothing_written(status: Status, notes: &str) -> Ending<'_> {
+fn nothing_written(code: u8, notes: &str) -> Ending<'_> {
     Ending {
-        status,
+        code,
         out: "",
         notes,
     }
 }
 
 fn assert_ended(rt: &impl Abort, ended: &Ended, want: Ending<'_>, text: &str) {
-    assert_eq!(rt; ended.status, want.status, "{text}");
+    assert_eq!(rt; ended.status.code(), want.code, "{text}");
     assert_eq!(rt; ended.out.bytes(), want.out.as_bytes(), "{text}");
     assert_eq!(rt; ended.notes.bytes(), want.notes.as_bytes(), "{text}");
 }
@@ -114,10 +204,6 @@ fn canon(text: &str) -> Case<'_> {
         out: &[],
         notes: &[],
     }
-}
-
-fn refused(cause: Cause) -> Status {
-    Status::Refused(Refusal { file: 0, cause })
 }
 
 #[test]
@@ -149,6 +235,11 @@ fn canon_writes_each_line_once_and_in_order(rt: HostRuntime) -> Result<(), Fail>
             "<e:s> <e:p> \"x\" .\n<e:s> <e:p> \"x\"@en-GB .\n",
         ),
         (DIFFERENT, NAMED),
+        (PAIR, NAMED_PAIR),
+        (
+            LOOPS,
+            "_:c14n0 <e:p> _:c14n0 .\n_:c14n1 <e:p> _:c14n1 .\n",
+        ),
     ];
     for (text, want) in cases {
         expect(&rt, rt.alloc(), keys, &canon(text), done(want))?;
@@ -157,71 +248,101 @@ fn canon_writes_each_line_once_and_in_order(rt: HostRuntime) -> Result<(), Fail>
 }
 
 #[test]
-fn hash_writes_the_digest_of_the_canonical_text(rt: HostRuntime) -> Result<(), Fail> {
+fn each_command_writes_its_text(rt: HostRuntime) -> Result<(), Fail> {
     let keys = RandomState::new(&rt)?;
-    let case = Case {
-        words: &["hash", "f"],
-        ..canon("")
-    };
-    expect(&rt, rt.alloc(), keys, &case, done(HASH_OF_NOTHING))
+    let cases: [(&[&str], &str, &str); 15] = [
+        (&["hash", "f"], "", HASH_OF_NOTHING),
+        (&["hash", "--hash", "sha256", "f"], "", HASH_OF_NOTHING),
+        (&["hash", "--hash", "sha384", "f"], "", LONG_HASH_OF_NOTHING),
+        (&["map", "f"], "", ""),
+        (&["map", "f"], PAIR, "_:a _:c14n0\n_:b _:c14n1\n"),
+        (&["canon", "--limit", "12", "f"], PAIR, NAMED_PAIR),
+        (&["ties", "f"], PAIR, "units 12\nties 1\njoined 1\n"),
+        (&["ties", "f"], PAIR_TWICE, "units 12\nties 1\njoined 1\n"),
+        (&["ties", "f"], LOOPS, "units 2\nties 1\njoined 1\n"),
+        (&["ties", "f"], RING, "units 108\nties 5\njoined 5\n"),
+        (&["ties", "f"], TWO_RINGS, "units 54\nties 5\njoined 5\n"),
+        (&["ties", "--limit", "4565", "f"], FIVE, "units 4565\nties 119\njoined 119\n"),
+        (&["ties", "f"], THREE_TWICE, "units 219\nties 5\njoined 5\n"),
+        (&["ties", "--related", "each", "f"], THREE_TWICE, "units 219\nties 5\njoined 5\n"),
+        (&["ties", "--related", "once", "--limit", "75", "f"], THREE_TWICE, "units 75\nties 5\njoined 5\n"),
+    ];
+    for (words, text, out) in cases {
+        let case = Case {
+            words,
+            ..canon(text)
+        };
+        expect(&rt, rt.alloc(), keys, &case, done(out))?;
+    }
+    Ok(())
+}
+
+#[test]
+fn a_tie_that_is_not_joined_is_told(rt: HostRuntime) -> Result<(), Fail> {
+    let keys = RandomState::new(&rt)?;
+    let cases: [(&str, &str, &str); 3] = [
+        ("canon", TURNED, "_:c14n0 <e:p> _:c14n1 _:c14n2 .\n_:c14n1 <e:p> _:c14n2 _:c14n0 .\n_:c14n2 <e:p> _:c14n0 _:c14n1 .\n"),
+        ("ties", TURNED, "units 105\nties 5\njoined 1\ncanon\nleft _:a _:b _:c\nright _:a _:c _:b\n"),
+        ("ties", FOUR, "units 150\nties 7\njoined 0\ncanon\nleft _:o0 _:g0 _:g1 _:o1 _:s0 _:s1\nright _:o0 _:g0 _:g1 _:o1 _:s1 _:s0\n"),
+    ];
+    for (word, text, out) in cases {
+        let case = Case {
+            words: &[word, "f"],
+            ..canon(text)
+        };
+        let want = Ending {
+            code: 3,
+            out,
+            notes: "rdfc: f: a tie is unsettled\n",
+        };
+        expect(&rt, rt.alloc(), keys, &case, want)?;
+    }
+    Ok(())
 }
 
 #[test]
 fn what_is_not_done_is_noted_and_nothing_is_written(rt: HostRuntime) -> Result<(), Fail> {
     let keys = RandomState::new(&rt)?;
     let wrong = "rdfc: the words are not a command\n";
-    let cases: [(&[&str], &str, &[u64], Status, &str); 11] = [
-        (&[], "", &[], Status::Usage, wrong),
-        (&["canon"], "", &[], Status::Usage, wrong),
-        (&["canon", ""], "", &[], Status::Usage, wrong),
-        (&["canon", "-f"], "", &[], Status::Usage, wrong),
-        (&["canon", "f", "f"], "", &[], Status::Usage, wrong),
-        (&["--help"], "", &[], Status::Usage, wrong),
-        (
-            &["hash", "f"],
-            "<e:a> .",
-            &[],
-            refused(Cause::BadLine { line: 1 }),
-            "rdfc: f:1: not an N-Quads line\n",
-        ),
+    let cases: [(&[&str], &str, &[u64], u8, &str); 24] = [
+        (&[], "", &[], 2, wrong),
+        (&["canon"], "", &[], 2, wrong),
+        (&["canon", ""], "", &[], 2, wrong),
+        (&["canon", "-f"], "", &[], 2, wrong),
+        (&["canon", "f", "f"], "", &[], 2, wrong),
+        (&["--help"], "", &[], 2, wrong),
+        (&["canon", "--limit", "0", "f"], "", &[], 2, wrong),
+        (&["canon", "--limit", "07", "f"], "", &[], 2, wrong),
+        (&["canon", "--limit", "+7", "f"], "", &[], 2, wrong),
+        (&["canon", "--limit", "100000001", "f"], "", &[], 2, wrong),
+        (&["canon", "--limit", "7", "--limit", "7", "f"], "", &[], 2, wrong),
+        (&["canon", "f", "--limit", "7"], "", &[], 2, wrong),
+        (&["canon", "--limit", "f"], "", &[], 2, wrong),
+        (&["canon", "--limit"], "", &[], 2, wrong),
+        (&["canon", "--hash", "md5", "f"], "", &[], 2, wrong),
+        (&["canon", "--related", "twice", "f"], "", &[], 2, wrong),
+        (&["canon", "--trig", "f"], "", &[], 2, wrong),
+        (&["hash", "f"], "<e:a> .", &[], 4, "rdfc: f:1: not an N-Quads line\n"),
         (
             &["canon", "f"],
             "#\n<a> <e:p> <e:o> .",
             &[],
-            refused(Cause::RelativeIri { line: 2 }),
+            4,
             "rdfc: f:2: IRI without a scheme\n",
         ),
-        (
-            &["canon", "f"],
-            "_:a <e:p> _:b .\n_:b <e:p> _:a .",
-            &[],
-            refused(Cause::EqualHashes),
-            "rdfc: f: equal first-degree hashes\n",
-        ),
-        (
-            &["canon", "g"],
-            "",
-            &[],
-            Status::ReadFault { file: 0 },
-            "rdfc: g: read failed\n",
-        ),
-        (
-            &["canon", "f"],
-            "<e:a> .",
-            &[1],
-            Status::ReadFault { file: 0 },
-            "rdfc: f: read failed\n",
-        ),
+        (&["canon", "g"], "", &[], 5, "rdfc: g: read failed\n"),
+        (&["canon", "f"], "<e:a> .", &[1], 5, "rdfc: f: read failed\n"),
+        (&["ties", "--limit", "11", "f"], PAIR, &[], 7, "rdfc: f: work limit 11 passed\n"),
+        (&["canon", "--limit", "4564", "f"], FIVE, &[], 7, "rdfc: f: work limit 4564 passed\n"),
+        (&["map", "--limit", "2000", "f"], FIVE, &[], 7, "rdfc: f: work limit 2000 passed\n"),
     ];
-    for (words, text, shelf, status, note) in cases {
+    for (words, text, shelf, code, note) in cases {
         let case = Case {
             words,
-            text,
             shelf,
-            out: &[],
-            notes: &[],
+            ..canon(text)
         };
-        expect(&rt, rt.alloc(), keys, &case, nothing_written(status, note))?;
+        expect(&rt, rt.alloc(), keys, &case, nothing_written(code, note))?;
     }
     Ok(())
 }
@@ -230,7 +351,7 @@ fn what_is_not_done_is_noted_and_nothing_is_written(rt: HostRuntime) -> Result<(
 fn a_read_that_fails_is_never_the_end_of_the_file(rt: HostRuntime) -> Result<(), Fail> {
     let keys = RandomState::new(&rt)?;
     // Twelve bytes in pieces of seven: the start, two pieces, and the call that finds the end.
-    let want = nothing_written(Status::ReadFault { file: 0 }, "rdfc: f: read failed\n");
+    let want = nothing_written(5, "rdfc: f: read failed\n");
     for call in 0..4 {
         let case = Case {
             shelf: &[call],
@@ -249,7 +370,7 @@ fn a_write_that_fails_leaves_a_front_of_the_text(rt: HostRuntime) -> Result<(), 
         ..canon("<http://e/a> <http://e/p> <http://e/o> .\n")
     };
     let want = Ending {
-        status: Status::WriteFault,
+        code: 6,
         out: "<http://e/",
         notes: "rdfc: write failed\n",
     };
@@ -263,7 +384,7 @@ fn a_note_that_fails_changes_no_status(rt: HostRuntime) -> Result<(), Fail> {
         notes: &[1],
         ..canon("no line")
     };
-    let want = nothing_written(refused(Cause::BadLine { line: 1 }), "rdfc: ");
+    let want = nothing_written(4, "rdfc: ");
     expect(&rt, rt.alloc(), keys, &case, want)
 }
 
@@ -275,7 +396,7 @@ fn want_of_memory_writes_nothing(rt: HostRuntime) -> Result<(), Fail> {
     let text = "_:x <e:p> \"v\" _:x .";
     let ended = outcome_of(rt.alloc(), keys, &canon(text))?;
     let want = match ended.status {
-        Status::NoMemory => nothing_written(Status::NoMemory, "rdfc: out of memory\n"),
+        Status::NoMemory => nothing_written(8, "rdfc: out of memory\n"),
         _ => done("_:c14n0 <e:p> \"v\" _:c14n0 .\n"),
     };
     assert_ended(&rt, &ended, want, text);
