@@ -1,3 +1,5 @@
+//! The longest token of any kind.
+
 ghost use Rattle.trig_lexer.specs.Longer.{Finds};
 ghost use Rattle.trig_lexer.specs.Groups.{GroupShapes};
 

@@ -1,3 +1,5 @@
+//! The blank node without a label.
+
 ghost use Rattle.std.specs.Prelude.{IfSome, IfNone};
 ghost use Rattle.trig_lexer.specs.Longest.{TextBeginsWithLongest, TextBeginsWithNoToken};
 ghost use Rattle.trig_lexer.specs.Groups.{AnonShapes};

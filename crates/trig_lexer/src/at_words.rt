@@ -1,3 +1,5 @@
+//! What begins with `@`.
+
 ghost use Rattle.std.specs.Prelude.{IfSome, IfNone};
 ghost use Rattle.trig_lexer.specs.Longest.{TextBeginsWithLongest, TextBeginsWithNoToken};
 ghost use Rattle.trig_lexer.specs.Groups.{AtShapes, IsKindOfTag};

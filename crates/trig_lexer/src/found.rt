@@ -1,3 +1,5 @@
+//! A token and what follows it.
+
 use crate::Kind;
 
 // A token at the front of a text: its kind, and what follows it.

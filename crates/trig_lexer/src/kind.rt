@@ -1,3 +1,5 @@
+//! The kinds of tokens.
+
 /// What kind of token a text is cut into: the words and marks of the grammar of TriG, and its
 /// terminals (RDF 1.1 TriG, section 4).
 #[derive(Clone, Copy, Debug, PartialEq, Eq)]

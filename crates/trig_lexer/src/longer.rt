@@ -1,3 +1,5 @@
+//! The longer one of two tokens.
+
 ghost use Rattle.trig_lexer.specs.Longer.{IsLonger};
 
 use crate::found::Found;

@@ -1,3 +1,5 @@
+//! Tokens of one character.
+
 ghost use Rattle.std.specs.Prelude.{IfSome, IfNone};
 ghost use Rattle.rdf_terms.specs.Lists.{In};
 ghost use Rattle.trig_lexer.specs.declared.kind.Kind.{Kind};

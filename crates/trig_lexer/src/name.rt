@@ -1,3 +1,5 @@
+//! Prefixed names.
+
 ghost use Rattle.std.specs.Prelude.{◌≡◌, IfSome, IfNone};
 ghost use Rattle.trig_lexer.specs.Longest.{TextBeginsWithLongest, TextBeginsWithNoToken};
 ghost use Rattle.trig_lexer.specs.Fronts.{BeginsWithShape, BeginsWithNoShape, TextReads, TextReadsNone};

@@ -1,3 +1,5 @@
+//! The two parts of a prefixed name.
+
 ghost use Rattle.std.specs.Prelude.{◌≡◌, IfSome, IfNone};
 ghost use Rattle.char_tables.specs.Rows.{is_in};
 ghost use Rattle.trig_lexer.specs.Fronts.{BeginsWithShape, BeginsWithNoShape, BeginsWithLongestShape, TextReads, TextReadsNone};

@@ -1,3 +1,5 @@
+//! Strings in their four forms.
+
 ghost use Rattle.std.specs.Prelude.{◌≡◌, ◌≢◌, ℕ, List, ◌∷◌, ◌++◌, IfSome, IfNone};
 ghost use Rattle.terminals.specs.Spellings.{quote_mark};
 ghost use Rattle.trig_lexer.specs.Longest.{TextBeginsWithLongest, TextBeginsWithNoToken};

@@ -1,3 +1,5 @@
+//! Terminals that N-Quads has too.
+
 ghost use Rattle.std.specs.Prelude.{IfSome, IfNone};
 ghost use Rattle.trig_lexer.specs.Longest.{TextBeginsWithLongest, TextBeginsWithNoToken};
 ghost use Rattle.trig_lexer.specs.Groups.{IriShapes, LabelShapes};

@@ -1,3 +1,5 @@
+//! The next token of a text.
+
 ghost use Rattle.std.specs.Prelude.{◌≢◌, ◌<◌, [], IfSome, IfNone};
 ghost use Rattle.std.specs.Str.{IsCharBoundary};
 ghost use Rattle.trig_lexer.specs.Longest.{TextBeginsWithNoToken};

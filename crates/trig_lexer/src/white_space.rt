@@ -1,3 +1,5 @@
+//! White space and comments.
+
 ghost use Rattle.std.specs.Prelude.{◌≡◌, IfSome, IfNone};
 ghost use Rattle.trig_lexer.specs.Fronts.{TextReads, TextReadsNone};
 ghost use Rattle.trig_lexer.specs.WhiteSpace.{ends_line, is_white, IsLineThen, IsGapThen, BeginsWithNoGap, IsSkipped};

@@ -1,3 +1,5 @@
+//! Words, and marks of two characters.
+
 ghost use Rattle.std.specs.Prelude.{◌≡◌, IfSome, IfNone};
 ghost use Rattle.std.specs.Str.{IsAscii};
 ghost use Rattle.trig_lexer.specs.Longest.{Only, TextBeginsWithLongest, TextBeginsWithNoToken};
