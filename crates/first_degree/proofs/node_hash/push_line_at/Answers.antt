@@ -14,4 +14,4 @@ pub returns : goal.returns
 returns c =
     subst (λ line. OnOk c.push.result (c.push.new.self ≡ c.args.lines.now ++ line ∷ []))
     (line_of_quad c.args.dataset.now c.args.place c.terms.result.now c.quads.result.now c.terms.ensures.terms c.quads.ensures.quads c.requires c.args.node)
-    c.push.ensures
+    c.push.ensures.pushed
