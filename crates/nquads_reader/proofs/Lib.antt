@@ -11,6 +11,11 @@ mod Used
 mod Adding
 pub mod OneReading
 pub mod Causes
+mod Cuts
+mod Pieces
+mod Splits
+mod Begun
+mod Finishing
 mod WrittenTerminals
 mod WrittenQuads
 mod WrittenTerms

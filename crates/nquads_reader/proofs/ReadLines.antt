@@ -1,62 +1,33 @@
--- Blocks of lines are read one after the other.
-use Rattle.std.proofs.Common.{◌≡◌, ℕ, zero, suc, ◌+◌, ◌-◌, ◌<◌, List, [], ◌∷◌, ◌++◌, Option, Some, All, length, take, drop, slice_get, refl, ap, sym, subst, ◌∙◌, arith, append_assoc, append-nil, add-one}
+-- Lines are read one after the other, and blocks of lines.
+use Rattle.std.proofs.Common.{◌≡◌, ◌≢◌, ℕ, zero, suc, ◌+◌, ◌-◌, ◌*◌, ◌<◌, ◌≤◌, List, [], ◌∷◌, ◌++◌, Option, Some, All, length, take, slice_get, refl, ap, sym, subst, ◌∙◌, arith, append_assoc, append-nil, length-append, add_assoc}
 use Rattle.std.specs.List.{flat_map}
-use Rattle.std.proofs.Math.Seq.{take-add}
 use Rattle.std.proofs.lemmas.Grind.{flat_map-append}
-use Rattle.std.proofs.lemmas.List.{drop-drop}
 use Rattle.std.proofs.lemmas.List.Elements.{All-nil, All-cons, All-append}
 use Rattle.rdf_terms.specs.Lists.{Text}
+use Rattle.rdf_terms.specs.Terms.{Statement}
 use Rattle.rdf_terms.specs.Document.{Document, statements}
+use Rattle.rdf_terms.specs.declared.term.Label.{Label}
 use Rattle.nquads_reader.specs.declared.quad.StatedQuad.{StatedQuad}
-use Rattle.nquads_reader.specs.Lines.{lines_of}
+use Rattle.nquads_reader.specs.Lines.{lines_of, onto_first}
 use Rattle.nquads_reader.specs.declared.line.LineFault.{LineFault}
 use Rattle.nquads_reader.specs.declared.line.LineFault.TheVariants.{NotUtf8, BadLine, RelativeIri, NoMemory}
-use Rattle.nquads_reader.specs.Document.{IsFaultless, IsLeastFaulty, quads_in, AllState, mentioned, IsStatementOf, AreRead, IsCauseOf}
-use Rattle.nquads_reader.specs.Reading.{IsFaultOf, Appends, IsBlock, IsFirstFault, fault_at, TakesQuads}
+use Rattle.nquads_reader.specs.Document.{IsFaultless, IsLeastFaulty, quads_in, AllState, mentioned, IsStatementOf, AreRead}
+use Rattle.nquads_reader.specs.Reading.{IsFaultOf, Appends, IsBlock, TakesQuads}
+use Rattle.nquads_reader.specs.Feeding.{TakesLines, StopsAt}
 use Rattle.nquads_reader.proofs.Numbering.{AddsAll-append, AddsAll-extends, statements_kept}
 use Rattle.nquads_reader.proofs.ManyQuads.{AllZip-append}
 
--- ---- lists
-
-line_at : (lines : List Text) (n : ℕ) (line : Text) (rest : List Text) → drop n lines ≡ line ∷ rest → slice_get lines n ≡ Some line
-line_at [] zero line rest e = cc
-line_at [] (suc n) line rest e = cc
-line_at (x ∷ xs) zero line rest e = let h : x ≡ line = cc in ap Some h
-line_at (x ∷ xs) (suc n) line rest e = line_at xs n line rest e
-
-take_next : (lines : List Text) (n : ℕ) (line : Text) (rest : List Text) → drop n lines ≡ line ∷ rest → take (suc n) lines ≡ take n lines ++ line ∷ []
-take_next [] zero line rest e = cc
-take_next [] (suc n) line rest e = cc
-take_next (x ∷ xs) zero line rest e = let h : x ≡ line = cc in ap (λ y. y ∷ []) h
-take_next (x ∷ xs) (suc n) line rest e = ap (λ ys. x ∷ ys) (take_next xs n line rest e)
-
-take_whole : (lines : List Text) (n : ℕ) → drop n lines ≡ [] → take n lines ≡ lines
-take_whole [] zero e = refl
-take_whole [] (suc n) e = refl
-take_whole (x ∷ xs) zero e = cc
-take_whole (x ∷ xs) (suc n) e = ap (λ ys. x ∷ ys) (take_whole xs n e)
-
-slice_get-behind : (lines : List Text) (n k : ℕ) → slice_get lines (n + k) ≡ slice_get (drop n lines) k
-slice_get-behind lines zero k =
-    let same : 0 + k ≡ k = omega arith in
-    ap (slice_get lines) same
-slice_get-behind [] (suc n) k = refl
-slice_get-behind (x ∷ xs) (suc n) k =
-    let same : suc n + k ≡ suc (n + k) = omega arith in
-    ap (slice_get (x ∷ xs)) same ∙ slice_get-behind xs n k
-
-no_lines : (rest : Text) → length rest ≡ 0 → lines_of rest ≡ []
-no_lines [] h = refl
-no_lines (c ∷ cs) h = absurd (omega arith)
-
 -- ---- lines
-
-state_more : (lines : List Text) (quads : List StatedQuad) (line : Text) (stated : Option StatedQuad) → AllState lines quads → IsFaultless line stated → AllState (lines ++ line ∷ []) (quads ++ quads_in stated)
-state_more [] quads line stated h f = (stated, [], f, ap (λ qs. qs ++ quads_in stated) h ∙ sym (append-nil (quads_in stated)), refl)
-state_more (l ∷ ls) quads line stated h f = (h.0, h.1 ++ quads_in stated, h.2, ap (λ qs. qs ++ quads_in stated) h.3 ∙ append_assoc (quads_in h.0) h.1 (quads_in stated), state_more ls h.1 line stated h.4 f)
 
 abbrev pub IsPassed : Text → Type 0
 IsPassed line = (stated : Option StatedQuad) × IsFaultless line stated
+
+pub state_more : (lines : List Text) (quads : List StatedQuad) (line : Text) (more : List StatedQuad) → AllState lines quads → Appends line quads more → AllState (lines ++ line ∷ []) more
+state_more lines quads line more h a = subst (AllState (lines ++ line ∷ [])) (sym a.appended) (by lines quads h)
+  where
+    by : (ls : List Text) (qs : List StatedQuad) → AllState ls qs → AllState (ls ++ line ∷ []) (qs ++ quads_in a.stated)
+    by [] qs k = (a.stated, [], a.faultless, ap (λ rs. rs ++ quads_in a.stated) k ∙ sym (append-nil (quads_in a.stated)), refl)
+    by (l ∷ ls) qs k = (k.0, k.1 ++ quads_in a.stated, k.2, ap (λ rs. rs ++ quads_in a.stated) k.3 ∙ append_assoc (quads_in k.0) k.1 (quads_in a.stated), by ls k.1 k.4)
 
 states_append : (lines : List Text) (quads : List StatedQuad) (others : List Text) (more : List StatedQuad) → AllState lines quads → AllState others more → AllState (lines ++ others) (quads ++ more)
 states_append [] quads others more h k = subst (λ qs. AllState others (qs ++ more)) (sym h) k
@@ -66,67 +37,100 @@ pub all_passed : (lines : List Text) (quads : List StatedQuad) → AllState line
 all_passed [] quads h = All-nil IsPassed
 all_passed (l ∷ ls) quads h = All-cons IsPassed l ls (h.0, h.2) (all_passed ls h.1 h.4)
 
--- ---- the lines of a block
+pub next_passed : (lines passed : List Text) (line : Text) (rest : List Text) → lines ≡ passed ++ line ∷ rest → lines ≡ (passed ++ line ∷ []) ++ rest
+next_passed lines passed line rest h = h ∙ sym (append_assoc passed (line ∷ []) rest)
 
--- of lines, the first n state the quads so far
-module _ (lines : List Text) (n : ℕ) (quads : List StatedQuad) (h : AllState (take n lines) quads) where
-  -- the next line states what it appends
-  pub line_states : (line : Text) (rest : List Text) (more : List StatedQuad) → drop n lines ≡ line ∷ rest → Appends line quads more → AllState (take (n + 1) lines) more
-  line_states line rest more at a =
-      let next : take (n + 1) lines ≡ take n lines ++ line ∷ [] = ap (λ m. take m lines) (add-one n) ∙ take_next lines n line rest at in
-      rw (next, a.appended) (state_more (take n lines) quads line a.stated h a.faultless)
+pub no_lines : (rest : Text) → length rest ≡ 0 → lines_of rest ≡ []
+no_lines [] h = refl
+no_lines (c ∷ cs) h = absurd (omega arith)
 
-  -- the next line is the first one with a fault
-  pub least_faulty : (HasFault : Text → Type 0) (line : Text) (rest : List Text) → drop n lines ≡ line ∷ rest → HasFault line → IsLeastFaulty HasFault lines (n + 1)
-  least_faulty HasFault line rest at fault =
-      let same : n + 1 - 1 ≡ n = omega arith in
-      record {
-        counted = omega arith;
-        line = line;
-        at = rw same (line_at lines n line rest at);
-        fault = fault;
-        before = rw same (all_passed (take n lines) quads h);
-      }
+-- ---- what lines add to a document
+
+pub takes_nothing : (d : Document) (n : ℕ) → TakesLines [] d d n n
+takes_nothing d n = record { quads = []; states = refl; takes = record { numbered = []; labels = refl; numbers = tt; adds = refl }; counted = omega arith }
+
+takes_both : (more others : List StatedQuad) (a b c : Document) → TakesQuads more a b → TakesQuads others b c → TakesQuads (more ++ others) a c
+takes_both more others a b c h k =
+    let kept = statements_kept b.labels c.labels (AddsAll-extends b.labels (flat_map mentioned others) c.labels k.labels) more h.numbered h.numbers in
+    record {
+      numbered = h.numbered ++ k.numbered;
+      labels = rw (flat_map-append mentioned more others) (AddsAll-append a.labels (flat_map mentioned more) b.labels (flat_map mentioned others) c.labels h.labels k.labels);
+      numbers = AllZip-append (IsStatementOf c.labels) more h.numbered others k.numbered kept k.numbers;
+      adds = AddsAll-append (statements a) h.numbered (statements b) k.numbered (statements c) h.adds k.adds;
+    }
+
+module _ (xs ys : List Text) (a b c : Document) (m n p : ℕ) (h : TakesLines xs a b m n) where
+  pub takes_append : TakesLines ys b c n p → TakesLines (xs ++ ys) a c m p
+  takes_append k = record {
+    quads = h.quads ++ k.quads;
+    states = states_append xs h.quads ys k.quads h.states k.states;
+    takes = takes_both h.quads k.quads a b c h.takes k.takes;
+    counted = omega (arith, h.counted, k.counted, length-append xs ys);
+  }
+
+  pub stops_behind : (fault : LineFault) → StopsAt ys fault b c n p → StopsAt (xs ++ ys) fault a c m p
+  stops_behind fault k = record {
+    front = xs ++ k.front;
+    line = k.line;
+    rest = k.rest;
+    splits = ap (λ ls. xs ++ ls) k.splits ∙ sym (append_assoc xs k.front (k.line ∷ k.rest));
+    takes = record {
+      quads = h.quads ++ k.takes.quads;
+      states = states_append xs h.quads k.front k.takes.quads h.states k.takes.states;
+      takes = takes_both h.quads k.takes.quads a b c h.takes k.takes.takes;
+      counted = omega (arith, h.counted, k.takes.counted, length-append xs k.front);
+    };
+    has_fault = k.has_fault;
+  }
+
+pub stops_before : (xs ys : List Text) (fault : LineFault) (a c : Document) (m p : ℕ) → StopsAt xs fault a c m p → StopsAt (xs ++ ys) fault a c m p
+stops_before xs ys fault a c m p k = record {
+  front = k.front;
+  line = k.line;
+  rest = k.rest ++ ys;
+  splits = ap (λ ls. ls ++ ys) k.splits ∙ append_assoc k.front (k.line ∷ k.rest) ys;
+  takes = k.takes;
+  has_fault = k.has_fault;
+}
 
 -- ---- one more block
 
-module _ (bytes rest : Text) (n : ℕ) (at : drop n (lines_of bytes) ≡ lines_of rest) where
-  pub block_read : (quads : List StatedQuad) (k : ℕ) (after : Text) (old new : Document) → AreRead (take n (lines_of bytes)) old.labels (statements old) → IsBlock rest quads k after → TakesQuads quads old new → AreRead (take (n + k) (lines_of bytes)) new.labels (statements new)
-  block_read quads k after old new h block takes =
-      let next : take (n + k) (lines_of bytes) ≡ take n (lines_of bytes) ++ take k (lines_of rest) = take-add n k (lines_of bytes) ∙ ap (λ ls. take n (lines_of bytes) ++ take k ls) at in
-      let kept = statements_kept old.labels new.labels (AddsAll-extends old.labels (flat_map mentioned quads) new.labels takes.labels) h.stated h.numbered h.numbers in
-      record {
-        stated = h.stated ++ quads;
-        numbered = h.numbered ++ takes.numbered;
-        faultless = rw next (states_append (take n (lines_of bytes)) h.stated (take k (lines_of rest)) quads h.faultless block.states);
-        labels_are = rw (flat_map-append mentioned h.stated quads) (AddsAll-append [] (flat_map mentioned h.stated) old.labels (flat_map mentioned quads) new.labels h.labels_are takes.labels);
-        numbers = AllZip-append (IsStatementOf new.labels) h.stated h.numbered quads takes.numbered kept takes.numbers;
-        statements_are = AddsAll-append [] h.numbered (statements old) takes.numbered (statements new) h.statements_are takes.adds;
-      }
+pub behind_block : (lines behind passed more rest : List Text) → lines ≡ passed ++ behind → behind ≡ more ++ rest → lines ≡ (passed ++ more) ++ rest
+behind_block lines behind passed more rest h k = h ∙ ap (λ ls. passed ++ ls) k ∙ sym (append_assoc passed more rest)
 
-  pub lines_behind : (k : ℕ) (after : Text) → drop k (lines_of rest) ≡ lines_of after → drop (n + k) (lines_of bytes) ≡ lines_of after
-  lines_behind k after behind = sym (drop-drop k n (lines_of bytes)) ∙ ap (drop k) at ∙ behind
+pub block_taken : (bytes : Text) (quads : List StatedQuad) (n : ℕ) (rest : Text) (old new : Document) (before : ℕ) → (block : IsBlock bytes quads n rest) → TakesQuads quads old new → TakesLines block.passed old new before (before + n)
+block_taken bytes quads n rest old new before block takes = record { quads = quads; states = block.states; takes = takes; counted = ap (λ i. before + i) block.counted }
 
-  -- a fault of the rest is one of the document
-  pub fault_behind : (k : ℕ) (fault : LineFault) (d : Document) → AreRead (take n (lines_of bytes)) d.labels (statements d) → IsFirstFault rest k fault → IsLeastFaulty (λ text. IsFaultOf text fault) (lines_of bytes) (n + k)
-  fault_behind k fault d h first =
-      let least = first.least in
-      let positive : 0 < k = least.counted in
-      let same : n + k - 1 ≡ n + (k - 1) = omega arith in
-      let next : take (n + (k - 1)) (lines_of bytes) ≡ take n (lines_of bytes) ++ take (k - 1) (lines_of rest) = take-add n (k - 1) (lines_of bytes) ∙ ap (λ ls. take n (lines_of bytes) ++ take (k - 1) ls) at in
-      record {
-        counted = omega arith;
-        line = least.line;
-        at = ap (slice_get (lines_of bytes)) same ∙ slice_get-behind (lines_of bytes) n (k - 1) ∙ ap (λ ls. slice_get ls (k - 1)) at ∙ least.at;
-        fault = least.fault;
-        before = rw (same, next) (All-append IsPassed (take n (lines_of bytes)) (take (k - 1) (lines_of rest)) (all_passed (take n (lines_of bytes)) h.stated h.faultless) least.before);
-      }
+-- what was read, and lines behind it
+pub read_more : (xs ys : List Text) (old new : Document) (m n : ℕ) → AreRead xs old.labels (statements old) → TakesLines ys old new m n → AreRead (xs ++ ys) new.labels (statements new)
+read_more xs ys old new m n h k =
+    let kept = statements_kept old.labels new.labels (AddsAll-extends old.labels (flat_map mentioned k.quads) new.labels k.takes.labels) h.stated h.numbered h.numbers in
+    record {
+      stated = h.stated ++ k.quads;
+      numbered = h.numbered ++ k.takes.numbered;
+      faultless = states_append xs h.stated ys k.quads h.faultless k.states;
+      labels_are = rw (flat_map-append mentioned h.stated k.quads) (AddsAll-append [] (flat_map mentioned h.stated) old.labels (flat_map mentioned k.quads) new.labels h.labels_are k.takes.labels);
+      numbers = AllZip-append (IsStatementOf new.labels) h.stated h.numbered k.quads k.takes.numbered kept k.takes.numbers;
+      statements_are = AddsAll-append [] h.numbered (statements old) k.takes.numbered (statements new) h.statements_are k.takes.adds;
+    }
 
-pub cause_at : (bytes : Text) (n : ℕ) (fault : LineFault) → IsLeastFaulty (λ text. IsFaultOf text fault) (lines_of bytes) n → IsCauseOf bytes (fault_at n fault)
-cause_at bytes n NotUtf8 h = h
-cause_at bytes n BadLine h = h
-cause_at bytes n RelativeIri h = h
-cause_at bytes n NoMemory h = tt
+-- ---- the first line with a fault
 
-pub all_read : (bytes rest : Text) (n : ℕ) (d : Document) → drop n (lines_of bytes) ≡ lines_of rest → length rest ≡ 0 → AreRead (take n (lines_of bytes)) d.labels (statements d) → AreRead (lines_of bytes) d.labels (statements d)
-all_read bytes rest n d at none h = subst (λ lines. AreRead lines d.labels (statements d)) (take_whole (lines_of bytes) n (at ∙ no_lines rest none)) h
+pub take_front : (front more : List Text) → take (length front) (front ++ more) ≡ front
+take_front [] more = refl
+take_front (l ∷ ls) more = ap (λ rest. l ∷ rest) (take_front ls more)
+
+at_front : (front : List Text) (line : Text) (more : List Text) → slice_get (front ++ line ∷ more) (length front) ≡ Some line
+at_front [] line more = refl
+at_front (l ∷ ls) line more = at_front ls line more
+
+pub least_behind : (HasFault : Text → Type 0) (front : List Text) (line : Text) (more : List Text) (quads : List StatedQuad) → AllState front quads → HasFault line → IsLeastFaulty HasFault (front ++ line ∷ more) (length front + 1)
+least_behind HasFault front line more quads h fault =
+    let same : length front + 1 - 1 ≡ length front = omega arith in
+    record {
+      counted = omega arith;
+      line = line;
+      at = rw same (at_front front line more);
+      fault = fault;
+      before = rw (same, take_front front (line ∷ more)) (all_passed front quads h);
+    }

@@ -1,11 +1,11 @@
 -- What a function that reads at the front of a text answers.
-use Rattle.std.specs.Prelude.{◌≡◌, ℕ, ◌+◌, ◌*◌, ◌<◌, ◌≤◌, List, ◌++◌, Option, Some, None, IfSome, IsUtf8, length, take, drop}
+use Rattle.std.specs.Prelude.{◌≡◌, ℕ, ◌+◌, ◌*◌, ◌<◌, ◌≤◌, List, ◌∷◌, ◌++◌, Option, Some, None, IfSome, IsUtf8, length}
 use Rattle.std.specs.List.{flat_map, AllZip}
 use Rattle.rdf_terms.specs.Lists.{Text}
 use Rattle.rdf_terms.specs.Terms.{Statement, IsAbsoluteIri, IsValidKind}
 use Rattle.rdf_terms.specs.Document.{Document, AddsAll, statements}
 use Rattle.nquads_reader.specs.Lines.{lines_of}
-use Rattle.nquads_reader.specs.Document.{IsNotUtf8, IsBad, HasRelativeIri, IsFaultless, IsLeastFaulty, quads_in, AllState, mentioned, IsStatementOf}
+use Rattle.nquads_reader.specs.Document.{IsNotUtf8, IsBad, HasRelativeIri, IsFaultless, quads_in, AllState, mentioned, IsStatementOf}
 use Rattle.nquads_reader.specs.declared.quad.Resource.{Resource}
 use Rattle.nquads_reader.specs.declared.quad.Resource.TheVariants.{Iri, Label}
 use Rattle.nquads_reader.specs.declared.quad.Object.{Object}
@@ -52,18 +52,21 @@ pub record Appends (line : Text) (old new : List StatedQuad) : Type 0 where
   pub faultless : IsFaultless line stated
   pub appended : new ≡ old ++ quads_in stated
 
--- the first lines state the quads, each of which takes seven bytes at least, and the rest stands behind them
+-- the lines before the rest state the quads, each of which takes seven bytes at least
 pub record IsBlock (bytes : Text) (quads : List StatedQuad) (lines : ℕ) (rest : Text) : Type 0 where
-  pub states : AllState (take lines (lines_of bytes)) quads
-  pub behind : drop lines (lines_of bytes) ≡ lines_of rest
-  pub counted : lines + length rest ≤ length bytes
+  pub passed : List Text
+  pub splits : lines_of bytes ≡ passed ++ lines_of rest
+  pub states : AllState passed quads
+  pub counted : lines ≡ length passed
+  pub few : lines + length rest ≤ length bytes
   pub room : 7 * length quads + length rest ≤ length bytes
-  pub shorter : length rest < length bytes
 
--- the line of this number, counted from 1, is the first one with a fault, and this is its fault; or memory was refused at it, and no line before it has a fault
-pub record IsFirstFault (bytes : Text) (line : ℕ) (fault : LineFault) : Type 0 where
-  pub least : IsLeastFaulty (λ text. IsFaultOf text fault) (lines_of bytes) line
-  pub within : line ≤ length bytes
+-- the first line has the fault
+pub record IsFaultNext (bytes : Text) (fault : LineFault) : Type 0 where
+  pub line : Text
+  pub more : List Text
+  pub next : lines_of bytes ≡ line ∷ more
+  pub has_fault : IsFaultOf line fault
 
 -- the same as a fault of the document
 abbrev pub fault_at : ℕ → LineFault → ReadFault

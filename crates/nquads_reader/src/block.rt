@@ -1,5 +1,5 @@
-ghost use Rattle.std.specs.Prelude.{◌<◌, ◌≤◌, length, IfOk, IfErr, OnOk};
-ghost use Rattle.nquads_reader.specs.Reading.{IsFaultOf, Appends, IsBlock, IsFirstFault};
+ghost use Rattle.std.specs.Prelude.{◌≡◌, ◌<◌, ◌≤◌, length, IfErr, IfSome, IfNone, OnOk, OnErr};
+ghost use Rattle.nquads_reader.specs.Reading.{IsFaultOf, Appends, IsBlock, IsFaultNext};
 
 use crate::line::{LineFault, read_line};
 use crate::lines::next_line;
@@ -10,18 +10,12 @@ use std::alloc::Global;
 // waits for comes while the others go on. What is held of these quads still fits the near caches.
 const QUADS_AT_ONCE: usize = 64;
 
-// How many lines were read, and what stands behind them.
+// How many lines were read, what stands behind them, and the fault of the line there, if it has one.
 #[derive(Drop)]
 pub struct Block<'a> {
     pub lines: u64,
     pub rest: &'a [u8],
-}
-
-// The first line with a fault, counted from 1.
-#[derive(Drop)]
-pub struct FaultyLine {
-    pub line: u64,
-    pub fault: LineFault,
+    pub fault: Option<LineFault>,
 }
 
 // Puts the quad that the line states, if any, behind the others.
@@ -33,6 +27,7 @@ fn push_line<'a>(
 ) -> Result<(), LineFault>
     ensures ok { OnOk result (Appends line.now quads.old.items quads.new.items) }
     ensures err { IfErr result (IsFaultOf line.now) }
+    ensures unchanged { OnErr result (quads.new.items ≡ quads.old.items) }
 {
     if let Some(quad) = read_line(alloc, line)? {
         quads.push(quad)?;
@@ -40,29 +35,40 @@ fn push_line<'a>(
     Ok(())
 }
 
-// Reads lines until they state so many quads, or to the end. The quads stand in place of what was
-// there.
+// Reads lines until they state so many quads, to a line with a fault, or to the end. The quads stand
+// in place of what was there.
 pub fn read_block<'a>(
     alloc: Global,
     bytes: &'a [u8],
     quads: &mut Vec<StatedQuad<'a>>,
-) -> Result<Block<'a>, FaultyLine>
+) -> Block<'a>
     requires some { 0 < length bytes.now }
     requires few { length bytes.now ≤ 4294967295 }
-    ensures ok { IfOk result (λ block. IsBlock bytes.now quads.new.items block.lines block.rest.now) }
-    ensures err { IfErr result (λ found. IsFirstFault bytes.now found.line found.fault) }
+    ensures block { IsBlock bytes.now quads.new.items result.lines result.rest.now }
+    ensures fault { IfSome result.fault (IsFaultNext result.rest.now) }
+    ensures shorter { IfNone result.fault (length result.rest.now < length bytes.now) }
 {
     quads.clear();
     let mut rest = bytes;
     let mut lines = 0u64;
     while !rest.is_empty() && quads.len() < QUADS_AT_ONCE {
         let (line, after) = next_line(rest);
-        rest = after;
-        lines += 1;
         match push_line(alloc, line, quads) {
             Ok(()) => {}
-            Err(fault) => return Err(FaultyLine { line: lines, fault }),
+            Err(fault) => {
+                return Block {
+                    lines,
+                    rest,
+                    fault: Some(fault),
+                };
+            }
         }
+        rest = after;
+        lines += 1;
     }
-    Ok(Block { lines, rest })
+    Block {
+        lines,
+        rest,
+        fault: None,
+    }
 }

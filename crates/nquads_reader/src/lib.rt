@@ -2,18 +2,23 @@
 #![tactic(auto)]
 
 pub use fault::ReadFault;
+pub use line_reader::LineReader;
 pub use read::read_nquads;
 
 mod block;
+mod cut;
 mod fault;
 pub mod laws;
 mod line;
+mod line_reader;
 mod lines;
 mod number;
 mod quad;
 mod read;
+mod read_lines;
 mod stated_literal;
 mod stated_text;
+mod take_piece;
 mod terms;
 mod white;
 

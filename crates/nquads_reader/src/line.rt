@@ -11,7 +11,7 @@ use crate::white::{after_white, is_optional_comment};
 use iri_resolve::has_scheme;
 use rdf_terms::NoMemory;
 use simdutf8::compat::from_utf8;
-use std::alloc::{AllocFailed, Global};
+use std::alloc::{AllocError, AllocFailed, Global};
 use terminals::after;
 
 // Why a line was not taken.
@@ -27,6 +27,14 @@ impl From<NoMemory> for LineFault {
     ghost from_gives = { λ _ e. e ≡ Memory };
 
     fn from(_: NoMemory) -> Self {
+        LineFault::NoMemory
+    }
+}
+
+impl From<AllocError> for LineFault {
+    ghost from_gives = { λ _ e. e ≡ Memory };
+
+    fn from(_: AllocError) -> Self {
         LineFault::NoMemory
     }
 }

@@ -1,0 +1,70 @@
+-- How a reader stands for further bytes, and what it answers for all of them.
+use Rattle.std.proofs.Common.{◌≡◌, ◌≢◌, ℕ, ◌+◌, ◌≤◌, Bool, false, List, [], ◌++◌, inl, inr, Option, Some, None, length, refl, sym, ap, subst, ◌∙◌, arith, length-append}
+use Rattle.rdf_terms.specs.Lists.{Text}
+use Rattle.rdf_terms.specs.Document.{Document, statements}
+use Rattle.nquads_reader.specs.Lines.{lines_of}
+use Rattle.nquads_reader.specs.Document.{IsNQuads, IsCauseOf}
+use Rattle.nquads_reader.specs.Reading.{fault_at}
+use Rattle.nquads_reader.specs.Pieces.{Reader, ends_with_cr, AreTaken, AreStopped, GoesOn, HasStopped, StandsFor}
+use Rattle.nquads_reader.specs.Feeding.{TakesLines, StopsAt, HasRoom}
+use Rattle.nquads_reader.specs.declared.line.LineFault.{LineFault}
+use Rattle.nquads_reader.specs.declared.line.LineFault.TheVariants.{NotUtf8, BadLine, RelativeIri, NoMemory}
+use Rattle.nquads_reader.specs.declared.fault.ReadFault.{ReadFault}
+use Rattle.nquads_reader.specs.declared.fault.ReadFault.TheVariants.{NoMemory as Memory}
+use Rattle.nquads_reader.proofs.Pieces.{all_read, last_stops, stays_stopped, stopped_cause}
+use Rattle.nquads_reader.proofs.Begun.{room_more, room_wider}
+
+-- ---- a reader whose ended lines have no fault
+
+module _ (reader : Reader) (bytes : Text) (none : reader.fault ≡ None) (stands : StandsFor reader bytes) where
+  pub going_on : GoesOn reader bytes
+  going_on = elim stands.holds as (λ _. GoesOn reader bytes) [
+    | inl goes ↦ goes
+    | inr stops ↦ let e : Some stops.fault ≡ None = sym stops.kept ∙ none in cc
+  ]
+
+  pub whole_read : (new : Document) (n : ℕ) → TakesLines (lines_of reader.tail) reader.draft new reader.lines n → IsNQuads bytes new.labels (statements new)
+  whole_read new n takes = all_read bytes reader.draft reader.lines reader.tail going_on.taken new n takes
+
+  pub last_cause : (new : Document) (n : ℕ) (fault : LineFault) → (fault ≢ NoMemory → StopsAt (lines_of reader.tail) fault reader.draft new reader.lines n) → IsCauseOf bytes (fault_at (n + 1) fault)
+  last_cause new n NotUtf8 h = last_stops bytes reader.draft reader.lines reader.tail going_on.taken new n NotUtf8 (λ e. cc) (h (λ e. cc))
+  last_cause new n BadLine h = last_stops bytes reader.draft reader.lines reader.tail going_on.taken new n BadLine (λ e. cc) (h (λ e. cc))
+  last_cause new n RelativeIri h = last_stops bytes reader.draft reader.lines reader.tail going_on.taken new n RelativeIri (λ e. cc) (h (λ e. cc))
+  last_cause new n NoMemory h = tt
+
+  pub goes_further : (piece : Text) (new : Reader) → new.fault ≡ None → new.fed ≡ reader.fed + length piece → ((before : Text) → reader.after_cr ≡ ends_with_cr before → new.after_cr ≡ ends_with_cr (before ++ piece)) → ((before : Text) → AreTaken before reader.draft reader.lines reader.tail → reader.after_cr ≡ ends_with_cr before → AreTaken (before ++ piece) new.draft new.lines new.tail) → StandsFor new (bytes ++ piece)
+  goes_further piece new fault fed cr taken = record {
+    fed = fed ∙ ap (λ n. n + length piece) stands.fed ∙ sym (length-append bytes piece);
+    holds = inl (record { fault = fault; after_cr = cr bytes going_on.after_cr; taken = taken bytes going_on.taken going_on.after_cr });
+  }
+
+  pub stops_there : (piece : Text) (new : Reader) (fault : ReadFault) → new.fault ≡ Some fault → new.fed ≡ reader.fed + length piece → new.after_cr ≡ false → new.tail ≡ [] → ((before : Text) → AreTaken before reader.draft reader.lines reader.tail → reader.after_cr ≡ ends_with_cr before → AreStopped (before ++ piece) new.draft new.lines fault) → StandsFor new (bytes ++ piece)
+  stops_there piece new fault kept fed cr tail stopped = record {
+    fed = fed ∙ ap (λ n. n + length piece) stands.fed ∙ sym (length-append bytes piece);
+    holds = inr (record { fault = fault; kept = kept; after_cr = cr; tail = tail; stopped = stopped bytes going_on.taken going_on.after_cr });
+  }
+
+-- ---- a reader that stopped
+
+module _ (reader : Reader) (bytes : Text) (fault : ReadFault) (some : reader.fault ≡ Some fault) (stands : StandsFor reader bytes) where
+  stopped : HasStopped reader bytes
+  stopped = elim stands.holds as (λ _. HasStopped reader bytes) [
+    | inl goes ↦ let e : None ≡ Some fault = sym goes.fault ∙ some in cc
+    | inr stops ↦ stops
+  ]
+
+  pub kept_cause : IsCauseOf bytes fault
+  kept_cause =
+      let same : stopped.fault ≡ fault = let e : Some stopped.fault ≡ Some fault = sym stopped.kept ∙ some in cc in
+      subst (IsCauseOf bytes) same (stopped_cause bytes reader.draft reader.lines stopped.fault stopped.stopped)
+
+  pub stays : (piece : Text) → StandsFor (record reader { fed = reader.fed + length piece }) (bytes ++ piece)
+  stays piece = record {
+    fed = ap (λ n. n + length piece) stands.fed ∙ sym (length-append bytes piece);
+    holds = inr (record { fault = stopped.fault; kept = stopped.kept; after_cr = stopped.after_cr; tail = stopped.tail; stopped = stays_stopped bytes reader.draft reader.lines stopped.fault stopped.stopped piece });
+  }
+
+-- ---- room
+
+pub piece_room : (fed more : ℕ) (d : Document) (n p : ℕ) → fed + more ≤ 4294967295 → HasRoom fed d n p → HasRoom 4294967295 d n (p + more)
+piece_room fed more d n p few h = room_wider (fed + more) 4294967295 d n (p + more) few (room_more fed d n p more h)
