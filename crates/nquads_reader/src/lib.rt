@@ -23,4 +23,4 @@ mod terms;
 mod white;
 
 /// How many distinct quads a document may have.
-pub const MAX_QUADS: u64 = 1_048_576;
+pub const MAX_QUADS: u64 = 4_194_304;
