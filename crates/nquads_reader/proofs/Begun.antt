@@ -9,18 +9,11 @@ use Rattle.nquads_reader.specs.declared.line.LineFault.{LineFault}
 use Rattle.nquads_reader.proofs.Cuts.{lines_begun}
 use Rattle.nquads_reader.proofs.ReadLines.{takes_append, stops_behind, stops_before}
 
-pub on_ok : {T E : Type 0} → (r : Result T E) (P Q : Type 0) → (P → Q) → OnOk r P → OnOk r Q
-on_ok (Ok x) P Q f h = f h
-on_ok (Err e) P Q f h = tt
-
 pub room_less : (limit : ℕ) (d : Document) (n p q : ℕ) → q ≤ p → HasRoom limit d n p → HasRoom limit d n q
 room_less limit d n p q less h = record { quads = omega (arith, h.quads); labels = omega (arith, h.labels); lines = omega (arith, h.lines) }
 
 pub room_more : (limit : ℕ) (d : Document) (n p more : ℕ) → HasRoom limit d n p → HasRoom (limit + more) d n (p + more)
 room_more limit d n p more h = record { quads = omega (arith, h.quads); labels = omega (arith, h.labels); lines = omega (arith, h.lines) }
-
-pub room_wider : (limit wider : ℕ) (d : Document) (n p : ℕ) → limit ≤ wider → HasRoom limit d n p → HasRoom wider d n p
-room_wider limit wider d n p less h = record { quads = omega (arith, h.quads); labels = omega (arith, h.labels); lines = omega (arith, h.lines) }
 
 module _ (tail bytes line rest : Text) (next : lines_of bytes ≡ line ∷ lines_of rest) (some : 0 < length tail) (inside : All (λ c. is_line_end c ≡ false) tail) where
   whole : lines_of (tail ++ bytes) ≡ lines_of (tail ++ line) ++ lines_of rest

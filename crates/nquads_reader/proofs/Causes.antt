@@ -66,9 +66,9 @@ module _ (lines : List Text) (HasFault HasOther : Text → Type 0) (m n : ℕ) (
       elim (cases_lt m n) as (λ _. m ≡ n) [
         | inl less ↦ absurd (not_before lines HasFault HasOther m n a b x less)
         | inr more ↦ elim (cases_lt n m) as (λ _. m ≡ n) [
-            | inl less ↦ absurd (not_before lines HasOther HasFault n m b a y less)
-            | inr least ↦ omega arith
-          ]
+          | inl less ↦ absurd (not_before lines HasOther HasFault n m b a y less)
+          | inr least ↦ omega arith
+        ]
       ]
 
   same_text : a.line ≡ b.line

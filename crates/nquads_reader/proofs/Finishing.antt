@@ -1,4 +1,4 @@
--- How a reader stands for further bytes, and what it answers for all of them.
+-- What a reader answers for the bytes that it was fed, and how one that stopped goes on.
 use Rattle.std.proofs.Common.{◌≡◌, ◌≢◌, ℕ, ◌+◌, ◌≤◌, Bool, false, List, [], ◌++◌, inl, inr, Option, Some, None, length, refl, sym, ap, subst, ◌∙◌, arith, length-append}
 use Rattle.rdf_terms.specs.Lists.{Text}
 use Rattle.rdf_terms.specs.Document.{Document, statements}
@@ -12,7 +12,6 @@ use Rattle.nquads_reader.specs.declared.line.LineFault.TheVariants.{NotUtf8, Bad
 use Rattle.nquads_reader.specs.declared.fault.ReadFault.{ReadFault}
 use Rattle.nquads_reader.specs.declared.fault.ReadFault.TheVariants.{NoMemory as Memory}
 use Rattle.nquads_reader.proofs.Pieces.{all_read, last_stops, stays_stopped, stopped_cause}
-use Rattle.nquads_reader.proofs.Begun.{room_more, room_wider}
 
 -- ---- a reader whose ended lines have no fault
 
@@ -31,18 +30,6 @@ module _ (reader : Reader) (bytes : Text) (none : reader.fault ≡ None) (stands
   last_cause new n BadLine h = last_stops bytes reader.draft reader.lines reader.tail going_on.taken new n BadLine (λ e. cc) (h (λ e. cc))
   last_cause new n RelativeIri h = last_stops bytes reader.draft reader.lines reader.tail going_on.taken new n RelativeIri (λ e. cc) (h (λ e. cc))
   last_cause new n NoMemory h = tt
-
-  pub goes_further : (piece : Text) (new : Reader) → new.fault ≡ None → new.fed ≡ reader.fed + length piece → ((before : Text) → reader.after_cr ≡ ends_with_cr before → new.after_cr ≡ ends_with_cr (before ++ piece)) → ((before : Text) → AreTaken before reader.draft reader.lines reader.tail → reader.after_cr ≡ ends_with_cr before → AreTaken (before ++ piece) new.draft new.lines new.tail) → StandsFor new (bytes ++ piece)
-  goes_further piece new fault fed cr taken = record {
-    fed = fed ∙ ap (λ n. n + length piece) stands.fed ∙ sym (length-append bytes piece);
-    holds = inl (record { fault = fault; after_cr = cr bytes going_on.after_cr; taken = taken bytes going_on.taken going_on.after_cr });
-  }
-
-  pub stops_there : (piece : Text) (new : Reader) (fault : ReadFault) → new.fault ≡ Some fault → new.fed ≡ reader.fed + length piece → new.after_cr ≡ false → new.tail ≡ [] → ((before : Text) → AreTaken before reader.draft reader.lines reader.tail → reader.after_cr ≡ ends_with_cr before → AreStopped (before ++ piece) new.draft new.lines fault) → StandsFor new (bytes ++ piece)
-  stops_there piece new fault kept fed cr tail stopped = record {
-    fed = fed ∙ ap (λ n. n + length piece) stands.fed ∙ sym (length-append bytes piece);
-    holds = inr (record { fault = fault; kept = kept; after_cr = cr; tail = tail; stopped = stopped bytes going_on.taken going_on.after_cr });
-  }
 
 -- ---- a reader that stopped
 
@@ -63,8 +50,3 @@ module _ (reader : Reader) (bytes : Text) (fault : ReadFault) (some : reader.fau
     fed = ap (λ n. n + length piece) stands.fed ∙ sym (length-append bytes piece);
     holds = inr (record { fault = stopped.fault; kept = stopped.kept; after_cr = stopped.after_cr; tail = stopped.tail; stopped = stays_stopped bytes reader.draft reader.lines stopped.fault stopped.stopped piece });
   }
-
--- ---- room
-
-pub piece_room : (fed more : ℕ) (d : Document) (n p : ℕ) → fed + more ≤ 4294967295 → HasRoom fed d n p → HasRoom 4294967295 d n (p + more)
-piece_room fed more d n p few h = room_wider (fed + more) 4294967295 d n (p + more) few (room_more fed d n p more h)

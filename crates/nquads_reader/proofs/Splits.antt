@@ -19,8 +19,8 @@ ended_at (c ∷ (d ∷ ds)) (suc n) less h = ended_at (d ∷ ds) n (omega arith)
 pub cut_at : (bytes : Text) (n : ℕ) → n < length bytes → is_line_end (get_or bytes n 0) ≡ true → ((k : ℕ) → n + 1 ≤ k → k < length bytes → ¬ (is_line_end (get_or bytes k 0) ≡ true)) → IsCut bytes (take (n + 1) bytes) (take (length bytes - (n + 1)) (drop (n + 1) bytes))
 cut_at bytes n less here after =
     let behind : (k : ℕ) → k < length (drop (n + 1) bytes) → is_line_end (get_or (drop (n + 1) bytes) k 0) ≡ false =
-        λ k within. subst (λ c. is_line_end c ≡ false) (sym (get_or-drop (n + 1) bytes k 0))
-            (false_from_ne_true (is_line_end (get_or bytes (n + 1 + k) 0)) (after (n + 1 + k) (omega arith) (omega (arith, length-drop (n + 1) bytes)))) in
+    λ k within. subst (λ c. is_line_end c ≡ false) (sym (get_or-drop (n + 1) bytes k 0))
+    (false_from_ne_true (is_line_end (get_or bytes (n + 1 + k) 0)) (after (n + 1 + k) (omega arith) (omega (arith, length-drop (n + 1) bytes)))) in
     subst (IsCut bytes (take (n + 1) bytes)) (sym (rest_all (n + 1) bytes)) (record {
       whole = sym (take-append-drop (n + 1) bytes);
       ends = subst (λ m. IsEnded (take m bytes)) (sym (add-one n)) (ended_at bytes n less here);

@@ -1,3 +1,4 @@
+//! The next lines, as far as they state so many quads.
 ghost use Rattle.std.specs.Prelude.{◌≡◌, ◌<◌, ◌≤◌, length, IfErr, IfSome, IfNone, OnOk, OnErr};
 ghost use Rattle.nquads_reader.specs.Reading.{IsFaultOf, Appends, IsBlock, IsFaultNext};
 
@@ -37,11 +38,7 @@ fn push_line<'a>(
 
 // Reads lines until they state so many quads, to a line with a fault, or to the end. The quads stand
 // in place of what was there.
-pub fn read_block<'a>(
-    alloc: Global,
-    bytes: &'a [u8],
-    quads: &mut Vec<StatedQuad<'a>>,
-) -> Block<'a>
+pub fn read_block<'a>(alloc: Global, bytes: &'a [u8], quads: &mut Vec<StatedQuad<'a>>) -> Block<'a>
     requires some { 0 < length bytes.now }
     requires few { length bytes.now ≤ 4294967295 }
     ensures block { IsBlock bytes.now quads.new.items result.lines result.rest.now }

@@ -1,3 +1,4 @@
+//! Where bytes are cut: behind their last line end, or between CR and LF.
 ghost use Rattle.std.specs.Prelude.{◌≡◌, ◌++◌};
 ghost use Rattle.rdf_terms.specs.Lists.{Text};
 ghost use Rattle.nquads_reader.specs.Pieces.{IsCut, ends_with_cr};

@@ -1,3 +1,4 @@
+//! Why a document is not read.
 ghost use Rattle.std.specs.Prelude.{◌≡◌};
 ghost use Rattle.nquads_reader.specs.declared.fault.ReadFault.TheVariants.{NoMemory as Memory};
 

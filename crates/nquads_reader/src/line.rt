@@ -1,3 +1,4 @@
+//! One line: what it states, or its fault.
 ghost use Rattle.std.specs.Prelude.{◌≡◌, ◌↔◌, IfOk, IfErr, IfSome, IsTrue};
 ghost use Rattle.rdf_terms.specs.Terms.{HasScheme};
 ghost use Rattle.nquads_reader.specs.declared.line.LineFault.TheVariants.{NoMemory as Memory};

@@ -107,7 +107,14 @@ impl LineReader {
         ensures err { OnErr result ((self.new.fault ≡ Some Memory) × (self.new.fed ≡ self.old.fed)) }
     {
         let alloc = *self.tail.allocator();
-        match take_piece(alloc, &mut self.draft, &mut self.lines, &mut self.tail, self.after_cr, piece) {
+        match take_piece(
+            alloc,
+            &mut self.draft,
+            &mut self.lines,
+            &mut self.tail,
+            self.after_cr,
+            piece,
+        ) {
             Ok(()) => {
                 self.after_cr = ends_in_cr(self.after_cr, piece);
                 self.fed += piece.len() as u64;

@@ -1,3 +1,4 @@
+//! The first line of some bytes.
 ghost use Rattle.std.specs.Prelude.{◌≡◌, ◌<◌, ◌≤◌, ◌+◌, ◌∷◌, length};
 ghost use Rattle.memchr.specs.Find.{is_byte2, IsFirstByte};
 ghost use Rattle.nquads_reader.specs.Lines.{lines_of};

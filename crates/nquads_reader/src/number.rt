@@ -1,3 +1,4 @@
+//! Quads as lines state them go into the draft, with numbers for their labels.
 ghost use Rattle.std.specs.Prelude.{◌≡◌, ◌<◌, ◌≤◌, ◌+◌, ◌*◌, length, map, All, IfOk, OnOk};
 ghost use Rattle.std.specs.List.{flat_map, AllZip};
 ghost use Rattle.rdf_terms.specs.Document.{statements, AddsAll};

@@ -1,3 +1,4 @@
+//! A quad as its line states it, over labels.
 use crate::stated_literal::StatedLiteral;
 use crate::stated_text::StatedText;
 

@@ -1,3 +1,4 @@
+//! A document whose bytes are all at hand.
 ghost use Rattle.std.specs.Prelude.{◌≤◌, length, IfOk, IfErr};
 ghost use Rattle.rdf_terms.specs.Document.{statements, IsDocument};
 ghost use Rattle.nquads_reader.specs.Document.{IsNQuads, IsCauseOf};

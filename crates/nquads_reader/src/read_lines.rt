@@ -1,3 +1,4 @@
+//! Lines go into the draft, one block after the other.
 ghost use Rattle.std.specs.Prelude.{◌≡◌, ◌≢◌, ℕ, ◌<◌, ◌≤◌, ◌+◌, ◌++◌, [], false, length, All, IfErr, OnOk};
 ghost use Rattle.rdf_terms.specs.Document.{statements};
 ghost use Rattle.nquads_reader.specs.Lines.{lines_of};

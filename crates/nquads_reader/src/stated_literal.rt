@@ -1,3 +1,4 @@
+//! A literal as its line states it.
 ghost use Rattle.std.specs.Prelude.{◌≡◌, ◌↔◌, IsTrue};
 ghost use Rattle.rdf_terms.specs.References.{kind_of, literal_of};
 ghost use Rattle.nquads_reader.specs.Document.{IsAbsoluteKind};

@@ -1,3 +1,4 @@
+//! The text of a term, in the line itself or with its escapes undone.
 ghost use Rattle.std.specs.Prelude.{◌≡◌, string_bytes};
 
 use std::alloc::Global;

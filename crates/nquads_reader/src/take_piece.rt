@@ -1,3 +1,4 @@
+//! A further piece of a document.
 ghost use Rattle.std.specs.Prelude.{◌≡◌, ◌≢◌, ℕ, ◌≤◌, ◌+◌, ◌++◌, length, IfErr, OnOk};
 ghost use Rattle.rdf_terms.specs.Lists.{Text};
 ghost use Rattle.nquads_reader.specs.Reading.{fault_at};

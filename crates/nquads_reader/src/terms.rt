@@ -1,3 +1,4 @@
+//! The terms of a line.
 ghost use Rattle.std.specs.Prelude.{◌≡◌, ◌↔◌, IfOk, IsTrue, false};
 ghost use Rattle.rdf_terms.specs.Lists.{Text};
 ghost use Rattle.rdf_terms.specs.CanonicalForm.{xsd_string};

@@ -1,3 +1,4 @@
+//! White space and comments.
 ghost use Rattle.std.specs.Prelude.{◌≡◌, ◌≤◌, ◌↔◌, IsTrue, length};
 ghost use Rattle.std.specs.List.{prefix_len};
 ghost use Rattle.nquads_reader.specs.Grammar.{is_white, IsWhiteThen, IsOptionalComment};

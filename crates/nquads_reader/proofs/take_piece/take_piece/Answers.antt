@@ -12,8 +12,8 @@ pub returns-in_err-read_ended-clause-err : goal.returns-in_err-read_ended-clause
 returns-in_err-read_ended-clause-err c =
     let p = err_from_is_err_and c.from_residual.result c.from_residual.ensures.1 in
     rw (p.1, p.2) (λ bytes taken cr other.
-      let cut = subst (λ b. IsCut b c.split_at_last_end.result.0.now c.split_at_last_end.result.1.now) (c.behind_line_end-bytes.ensures ∙ ap (λ x. behind_line_end x c.args.piece.now) cr) c.split_at_last_end.ensures in
-      stops bytes c.args.draft.now c.args.lines.now c.args.tail.now.items taken c.args.piece.now c.split_at_last_end.result.0.now c.split_at_last_end.result.1.now cut c.read_ended.new.draft c.read_ended.new.lines c.in_err-read_ended.field-0.0 other (c.in_err-read_ended.ensures.err taken.cut.no_end other))
+    let cut = subst (λ b. IsCut b c.split_at_last_end.result.0.now c.split_at_last_end.result.1.now) (c.behind_line_end-bytes.ensures ∙ ap (λ x. behind_line_end x c.args.piece.now) cr) c.split_at_last_end.ensures in
+    stops bytes c.args.draft.now c.args.lines.now c.args.tail.now.items taken c.args.piece.now c.split_at_last_end.result.0.now c.split_at_last_end.result.1.now cut c.read_ended.new.draft c.read_ended.new.lines c.in_err-read_ended.field-0.0 other (c.in_err-read_ended.ensures.err taken.cut.no_end other))
 
 pub returns-clause-ok : goal.returns-clause-ok
 returns-clause-ok c bytes taken cr =

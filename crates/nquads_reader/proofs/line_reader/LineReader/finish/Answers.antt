@@ -21,8 +21,8 @@ returns-in-Err-clause-err c bytes stands =
     let n = c.read_lines.new.lines in
     subst (IsCauseOf bytes) (sym c.read_fault.ensures) (last_cause c.args.self bytes none stands new n fault
     (λ other.
-      subst (λ (r : Reader). StopsAt (lines_of r.tail) fault r.draft new r.lines n) c.self.view_is
-      (subst (λ t. StopsAt (lines_of t) fault c.self.inside.draft new c.self.inside.lines n) c.deref.ensures.value (c.in-Err.ensures.err other))))
+    subst (λ (r : Reader). StopsAt (lines_of r.tail) fault r.draft new r.lines n) c.self.view_is
+    (subst (λ t. StopsAt (lines_of t) fault c.self.inside.draft new c.self.inside.lines n) c.deref.ensures.value (c.in-Err.ensures.err other))))
 
 pub returns-then-quad_count-gt-MAX_QUADS-clause-err : goal.returns-then-quad_count-gt-MAX_QUADS-clause-err
 returns-then-quad_count-gt-MAX_QUADS-clause-err c bytes stands =
@@ -30,7 +30,7 @@ returns-then-quad_count-gt-MAX_QUADS-clause-err c bytes stands =
     let new : Document = c.read_lines.new.draft in
     let n = c.read_lines.new.lines in
     let takes = subst (λ (r : Reader). TakesLines (lines_of r.tail) r.draft new r.lines n) c.self.view_is
-        (subst (λ t. TakesLines (lines_of t) c.self.inside.draft new c.self.inside.lines n) c.deref.ensures.value c.in_default-read_lines.ensures.ok) in
+    (subst (λ t. TakesLines (lines_of t) c.self.inside.draft new c.self.inside.lines n) c.deref.ensures.value c.in_default-read_lines.ensures.ok) in
     (new.labels, statements new, whole_read c.args.self bytes none stands new n takes, omega (arith, c.if-quad_count-gt-MAX_QUADS.true, c.quad_count.ensures.statements))
 
 pub returns-clause-ok : goal.returns-clause-ok
@@ -39,7 +39,7 @@ returns-clause-ok c bytes stands =
     let new : Document = c.read_lines.new.draft in
     let n = c.read_lines.new.lines in
     let takes = subst (λ (r : Reader). TakesLines (lines_of r.tail) r.draft new r.lines n) c.self.view_is
-        (subst (λ t. TakesLines (lines_of t) c.self.inside.draft new c.self.inside.lines n) c.deref.ensures.value c.in_default-read_lines.ensures.ok) in
+    (subst (λ t. TakesLines (lines_of t) c.self.inside.draft new c.self.inside.lines n) c.deref.ensures.value c.in_default-read_lines.ensures.ok) in
     let read = whole_read c.args.self bytes none stands new n takes in
     let same = c.in_ok-finish.ensures.whole (λ m less. node_used (lines_of bytes) new.labels (statements new) read m less) in
     subst (λ (d : Document). AreRead (lines_of bytes) d.labels (statements d)) (sym same) read
