@@ -1,0 +1,13 @@
+pub mod Tree
+pub mod Reading
+pub mod Underway
+pub mod Steps
+pub mod Passing
+pub mod Linking
+pub mod Images
+pub mod Telling
+pub mod Bridging
+pub mod Marking
+pub mod Ordering
+pub mod Finding
+pub mod Indexing

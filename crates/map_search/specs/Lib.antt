@@ -1,0 +1,9 @@
+pub mod Maps
+pub mod Ends
+pub mod Rows
+pub mod Pattern
+pub mod Laws
+pub mod Numbers
+pub mod Marks
+pub mod Table
+pub mod Index
