@@ -21,3 +21,4 @@ pub mod Quoting
 pub mod AllKinds
 pub mod Places
 pub mod Spelled
+pub mod LocalParts

@@ -1,7 +1,8 @@
 -- Prefixed names of RDF 1.1 TriG (section 4.5): PNAME_NS and PNAME_LN.
-use Rattle.std.specs.Prelude.{◌≡◌, ℕ, Bool, true, ◌||◌, ◌==◌, ◌⊎◌, List, [], ◌∷◌, ◌++◌, All}
+use Rattle.std.specs.Prelude.{◌≡◌, ℕ, Bool, true, false, if◌then◌else◌, ◌||◌, ◌==◌, ◌⊎◌, List, [], ◌∷◌, ◌++◌, All}
 use Rattle.std.specs.Char.{is_ascii_digit}
 use Rattle.std.specs.List.{concat}
+use Rattle.rdf_terms.specs.Lists.{Text}
 use Rattle.char_tables.specs.Rows.{Rows, is_in}
 use Rattle.char_tables.specs.Classes.{pn_chars_base, pn_chars_u_trig, pn_chars, hex}
 use Rattle.terminals.specs.Terminal.{Characters}
@@ -83,3 +84,12 @@ abbrev pub NameShapes : Kind → Characters → Type 0
 NameShapes PnameNs spelled = IsPnameNs spelled
 NameShapes PnameLn spelled = IsPnameLn spelled
 NameShapes _ spelled = ⊥
+
+-- What is left of a name without its PN_LOCAL_ESCs: a `\` is left out, and what follows it stands for itself. The first argument says whether a `\` stands right before the text.
+abbrev pub unescaped_behind : Bool → Text → Text
+unescaped_behind escaped [] = []
+unescaped_behind true (c ∷ cs) = c ∷ unescaped_behind false cs
+unescaped_behind false (c ∷ cs) = if c == 92 then unescaped_behind true cs else c ∷ unescaped_behind false cs
+
+abbrev pub unescaped : Text → Text
+unescaped text = unescaped_behind false text
