@@ -219,8 +219,10 @@ module _ (quote : Quote) (text : Text) (x : IsInside quote text) where
   scalars : all_scalars x.spelled ≡ true → IsUtf8 (inside ++ three_marks quote)
   scalars all = (
     x.is_string.inside ++ three_marks quote,
-    (all_scalars-append_right (three_marks quote) (x.is_string.inside ++ three_marks quote) (ap all_scalars (sym x.is_string.marks) ∙ all),
-    encodes-append x.is_string.inside (three_marks quote) ∙ ap (λ t. inside ++ t) (encoded_marks quote)),
+    (
+      all_scalars-append_right (three_marks quote) (x.is_string.inside ++ three_marks quote) (ap all_scalars (sym x.is_string.marks) ∙ all),
+      encodes-append x.is_string.inside (three_marks quote) ∙ ap (λ t. inside ++ t) (encoded_marks quote),
+    ),
   )
 
   pub inside_begins : IsUtf8 text → IsCharBoundary text 3

@@ -51,11 +51,7 @@ fn long_mark(text: &str) -> Quote
 }
 
 // What stands between the marks of a long string: marks there stand for themselves.
-fn long_value<'a>(
-    alloc: Global,
-    inside: &'a str,
-    quote: Quote,
-) -> Result<LeafText<'a>, NoMemory>
+fn long_value<'a>(alloc: Global, inside: &'a str, quote: Quote) -> Result<LeafText<'a>, NoMemory>
     ensures { (value : Text) → TextMeans quote inside.now value → IfOk result (λ text. text ≡ value) }
 {
     let mut value = String::new(alloc);
