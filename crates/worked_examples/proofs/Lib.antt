@@ -1,1 +1,2 @@
 pub mod ValidQuads
+pub mod Calls

@@ -4,6 +4,8 @@
 #[cfg(test)]
 mod arranged;
 #[cfg(test)]
+mod calls;
+#[cfg(test)]
 mod drafts;
 #[cfg(test)]
 mod edges;
