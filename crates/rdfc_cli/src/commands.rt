@@ -83,7 +83,14 @@ fn output_of<S: Shelf>(
     ensures stops { IfErr result (Stops (seen S.told S.faults shelf.old shelf.new) (command_of request.entry.command) request.entry.settings) }
 {
     match request.command {
-        Command::OnFile { task, file } => output_of_file(alloc, keys, task, request.settings, shelf, file),
+        Command::OnFile { task, file } => output_of_file(
+            alloc,
+            keys,
+            task,
+            request.settings,
+            shelf,
+            file,
+        ),
     }
 }
 

@@ -56,11 +56,7 @@ fn read_document(alloc: Global, keys: RandomState, bytes: &[u8]) -> Result<Parse
     }
 }
 
-fn dataset_of_document(
-    alloc: Global,
-    keys: RandomState,
-    bytes: &[u8],
-) -> Result<Dataset, FileFault>
+fn dataset_of_document(alloc: Global, keys: RandomState, bytes: &[u8]) -> Result<Dataset, FileFault>
     requires { length bytes.now ≤ FILE_LIMIT }
     ensures accepted { IfOk result (λ d. Accepts bytes.now (content_of d)) }
     ensures fault { IfErr result (IsTextFault bytes.now) }

@@ -104,11 +104,7 @@ fn put_limit<N: Sink>(notes: &mut N, file: &str, limit: u64) -> Result<(), Faile
     )
 }
 
-fn put_status<N: Sink>(
-    notes: &mut N,
-    status: &Status,
-    command: &Command<'_>,
-) -> Result<(), Failed>
+fn put_status<N: Sink>(notes: &mut N, status: &Status, command: &Command<'_>) -> Result<(), Failed>
     ensures bytes { Puts (N.taken notes.old) (N.taken notes.new) result (status_text (file_word (command_of command.now)) status.now) }
     ensures cause { HasCause (N.faults notes.old) (N.faults notes.new) result }
 {
@@ -128,11 +124,7 @@ fn put_status<N: Sink>(
     }
 }
 
-fn put_line<N: Sink>(
-    notes: &mut N,
-    status: &Status,
-    command: &Command<'_>,
-) -> Result<(), Failed>
+fn put_line<N: Sink>(notes: &mut N, status: &Status, command: &Command<'_>) -> Result<(), Failed>
     ensures bytes { Puts (N.taken notes.old) (N.taken notes.new) result (note_line (file_word (command_of command.now)) status.now) }
     ensures cause { HasCause (N.faults notes.old) (N.faults notes.new) result }
 {

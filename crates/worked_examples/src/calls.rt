@@ -78,11 +78,7 @@ fn count_calls(alloc: Global, dataset: &Dataset) -> Result<(u64, u64, u64), Fail
 }
 
 // The same for a document, if it is read.
-fn counted(
-    alloc: Global,
-    keys: RandomState,
-    text: &str,
-) -> Result<Option<(u64, u64, u64)>, Fail>
+fn counted(alloc: Global, keys: RandomState, text: &str) -> Result<Option<(u64, u64, u64)>, Fail>
     requires { length text.now ≤ 3000 }
 {
     let Some(dataset) = dataset_of(alloc, keys, text)? else {
@@ -115,11 +111,7 @@ fn first_call(
 }
 
 // Whether the exchange of the first two nodes has a witness with these pairs.
-fn turned_nodes(
-    alloc: Global,
-    keys: RandomState,
-    text: &str,
-) -> Result<Option<Bijection>, Fail>
+fn turned_nodes(alloc: Global, keys: RandomState, text: &str) -> Result<Option<Bijection>, Fail>
     requires { length text.now ≤ 3000 }
 {
     let Some(dataset) = dataset_of(alloc, keys, text)? else {
@@ -176,7 +168,10 @@ fn calls_have_the_units_and_ties_of_the_counted_run(rt: HostRuntime) -> Result<(
         (COMPLETE_GRAPH_OF_FIVE, (4565, 115, 115)),
     ];
     for (text, counts) in table {
-        assert_eq!(rt; counted(rt.alloc(), RandomState::new(&rt)?, text)?, Some(counts));
+        assert_eq!(rt;
+            counted(rt.alloc(), RandomState::new(&rt)?, text)?,
+            Some(counts)
+        );
     }
     Ok(())
 }
@@ -210,7 +205,11 @@ fn has_pairs(found: &Option<Bijection>, pairs: &[(u32, u32)]) -> bool {
 fn an_exchange_has_a_witness_where_it_is_a_symmetry(rt: HostRuntime) -> Result<(), Fail> {
     let symmetric = turned_nodes(rt.alloc(), RandomState::new(&rt)?, TWO_NODES)?;
     assert!(rt; has_pairs(&symmetric, &[(0, 1), (1, 0)]));
-    let other = turned_nodes(rt.alloc(), RandomState::new(&rt)?, "_:a <http://e/p> _:b .\n")?;
+    let other = turned_nodes(
+        rt.alloc(),
+        RandomState::new(&rt)?,
+        "_:a <http://e/p> _:b .\n",
+    )?;
     assert!(rt; other.is_none());
     Ok(())
 }

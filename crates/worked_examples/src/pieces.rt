@@ -24,12 +24,7 @@ fn is_same(a: &Result<Parsed, ReadFault>, b: &Result<Parsed, ReadFault>) -> bool
     }
 }
 
-fn in_two(
-    alloc: Global,
-    keys: RandomState,
-    front: &[u8],
-    back: &[u8],
-) -> Result<Parsed, ReadFault>
+fn in_two(alloc: Global, keys: RandomState, front: &[u8], back: &[u8]) -> Result<Parsed, ReadFault>
     requires front { length front.now ≤ 1000 }
     requires back { length back.now ≤ 1000 }
 {
@@ -70,7 +65,10 @@ fn each_cut_gives_the_same_answer(rt: HostRuntime) -> Result<(), Fail> {
         if text.len() > 1000 {
             return Err(Fail::from("a text is too long for this table"));
         }
-        assert!(rt; is_read_alike(rt.alloc(), keys, text.as_bytes()), "{text:?}");
+        assert!(rt;
+            is_read_alike(rt.alloc(), keys, text.as_bytes()),
+            "{text:?}"
+        );
     }
     Ok(())
 }

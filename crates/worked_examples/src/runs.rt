@@ -36,7 +36,9 @@ _:c14n1 <http://example.com/#t> <http://example.com/#u> .
 // The SHA-256 of no bytes, and a line feed; and the SHA-384.
 const HASH_OF_NOTHING: &str = "e3b0c44298fc1c149afbf4c8996fb92427ae41e4649b934ca495991b7852b855
 ";
-const LONG_HASH_OF_NOTHING: &str = "38b060a751ac96384cd9327eb1b1e36a21fdb71114be07434c0cc7bf63f6e1da274edebfe76f65fbd51ad2f14898b95b
+
+const LONG_HASH_OF_NOTHING: &str =
+    "38b060a751ac96384cd9327eb1b1e36a21fdb71114be07434c0cc7bf63f6e1da274edebfe76f65fbd51ad2f14898b95b
 ";
 
 // Two nodes that point at each other.
@@ -119,6 +121,7 @@ _:d <e:p> _:e .
 _:e <e:p> _:f .
 _:f <e:p> _:a .
 ";
+
 const TWO_RINGS: &str = "_:a <e:p> _:b .
 _:b <e:p> _:c .
 _:c <e:p> _:a .
@@ -236,10 +239,7 @@ fn canon_writes_each_line_once_and_in_order(rt: HostRuntime) -> Result<(), Fail>
         ),
         (DIFFERENT, NAMED),
         (PAIR, NAMED_PAIR),
-        (
-            LOOPS,
-            "_:c14n0 <e:p> _:c14n0 .\n_:c14n1 <e:p> _:c14n1 .\n",
-        ),
+        (LOOPS, "_:c14n0 <e:p> _:c14n0 .\n_:c14n1 <e:p> _:c14n1 .\n"),
     ];
     for (text, want) in cases {
         expect(&rt, rt.alloc(), keys, &canon(text), done(want))?;
@@ -262,10 +262,22 @@ fn each_command_writes_its_text(rt: HostRuntime) -> Result<(), Fail> {
         (&["ties", "f"], LOOPS, "units 2\nties 1\njoined 1\n"),
         (&["ties", "f"], RING, "units 108\nties 5\njoined 5\n"),
         (&["ties", "f"], TWO_RINGS, "units 54\nties 5\njoined 5\n"),
-        (&["ties", "--limit", "4565", "f"], FIVE, "units 4565\nties 119\njoined 119\n"),
+        (
+            &["ties", "--limit", "4565", "f"],
+            FIVE,
+            "units 4565\nties 119\njoined 119\n",
+        ),
         (&["ties", "f"], THREE_TWICE, "units 219\nties 5\njoined 5\n"),
-        (&["ties", "--related", "each", "f"], THREE_TWICE, "units 219\nties 5\njoined 5\n"),
-        (&["ties", "--related", "once", "--limit", "75", "f"], THREE_TWICE, "units 75\nties 5\njoined 5\n"),
+        (
+            &["ties", "--related", "each", "f"],
+            THREE_TWICE,
+            "units 219\nties 5\njoined 5\n",
+        ),
+        (
+            &["ties", "--related", "once", "--limit", "75", "f"],
+            THREE_TWICE,
+            "units 75\nties 5\njoined 5\n",
+        ),
     ];
     for (words, text, out) in cases {
         let case = Case {
@@ -281,9 +293,21 @@ fn each_command_writes_its_text(rt: HostRuntime) -> Result<(), Fail> {
 fn a_tie_that_is_not_joined_is_told(rt: HostRuntime) -> Result<(), Fail> {
     let keys = RandomState::new(&rt)?;
     let cases: [(&str, &str, &str); 3] = [
-        ("canon", TURNED, "_:c14n0 <e:p> _:c14n1 _:c14n2 .\n_:c14n1 <e:p> _:c14n2 _:c14n0 .\n_:c14n2 <e:p> _:c14n0 _:c14n1 .\n"),
-        ("ties", TURNED, "units 105\nties 5\njoined 1\ncanon\nleft _:a _:b _:c\nright _:a _:c _:b\n"),
-        ("ties", FOUR, "units 150\nties 7\njoined 0\ncanon\nleft _:o0 _:g0 _:g1 _:o1 _:s0 _:s1\nright _:o0 _:g0 _:g1 _:o1 _:s1 _:s0\n"),
+        (
+            "canon",
+            TURNED,
+            "_:c14n0 <e:p> _:c14n1 _:c14n2 .\n_:c14n1 <e:p> _:c14n2 _:c14n0 .\n_:c14n2 <e:p> _:c14n0 _:c14n1 .\n",
+        ),
+        (
+            "ties",
+            TURNED,
+            "units 105\nties 5\njoined 1\ncanon\nleft _:a _:b _:c\nright _:a _:c _:b\n",
+        ),
+        (
+            "ties",
+            FOUR,
+            "units 150\nties 7\njoined 0\ncanon\nleft _:o0 _:g0 _:g1 _:o1 _:s0 _:s1\nright _:o0 _:g0 _:g1 _:o1 _:s1 _:s0\n",
+        ),
     ];
     for (word, text, out) in cases {
         let case = Case {
@@ -315,14 +339,26 @@ fn what_is_not_done_is_noted_and_nothing_is_written(rt: HostRuntime) -> Result<(
         (&["canon", "--limit", "07", "f"], "", &[], 2, wrong),
         (&["canon", "--limit", "+7", "f"], "", &[], 2, wrong),
         (&["canon", "--limit", "100000001", "f"], "", &[], 2, wrong),
-        (&["canon", "--limit", "7", "--limit", "7", "f"], "", &[], 2, wrong),
+        (
+            &["canon", "--limit", "7", "--limit", "7", "f"],
+            "",
+            &[],
+            2,
+            wrong,
+        ),
         (&["canon", "f", "--limit", "7"], "", &[], 2, wrong),
         (&["canon", "--limit", "f"], "", &[], 2, wrong),
         (&["canon", "--limit"], "", &[], 2, wrong),
         (&["canon", "--hash", "md5", "f"], "", &[], 2, wrong),
         (&["canon", "--related", "twice", "f"], "", &[], 2, wrong),
         (&["canon", "--trig", "f"], "", &[], 2, wrong),
-        (&["hash", "f"], "<e:a> .", &[], 4, "rdfc: f:1: not an N-Quads line\n"),
+        (
+            &["hash", "f"],
+            "<e:a> .",
+            &[],
+            4,
+            "rdfc: f:1: not an N-Quads line\n",
+        ),
         (
             &["canon", "f"],
             "#\n<a> <e:p> <e:o> .",
@@ -331,10 +367,34 @@ fn what_is_not_done_is_noted_and_nothing_is_written(rt: HostRuntime) -> Result<(
             "rdfc: f:2: IRI without a scheme\n",
         ),
         (&["canon", "g"], "", &[], 5, "rdfc: g: read failed\n"),
-        (&["canon", "f"], "<e:a> .", &[1], 5, "rdfc: f: read failed\n"),
-        (&["ties", "--limit", "11", "f"], PAIR, &[], 7, "rdfc: f: work limit 11 passed\n"),
-        (&["canon", "--limit", "4564", "f"], FIVE, &[], 7, "rdfc: f: work limit 4564 passed\n"),
-        (&["map", "--limit", "2000", "f"], FIVE, &[], 7, "rdfc: f: work limit 2000 passed\n"),
+        (
+            &["canon", "f"],
+            "<e:a> .",
+            &[1],
+            5,
+            "rdfc: f: read failed\n",
+        ),
+        (
+            &["ties", "--limit", "11", "f"],
+            PAIR,
+            &[],
+            7,
+            "rdfc: f: work limit 11 passed\n",
+        ),
+        (
+            &["canon", "--limit", "4564", "f"],
+            FIVE,
+            &[],
+            7,
+            "rdfc: f: work limit 4564 passed\n",
+        ),
+        (
+            &["map", "--limit", "2000", "f"],
+            FIVE,
+            &[],
+            7,
+            "rdfc: f: work limit 2000 passed\n",
+        ),
     ];
     for (words, text, shelf, code, note) in cases {
         let case = Case {
