@@ -1,2 +1,2 @@
 pub mod ValidQuads
-pub mod Calls
+pub mod ValidCalls

@@ -1,7 +1,7 @@
 use Rattle.std.proofs.Common.{ap, ◌∙◌}
 use Rattle.rdf_terms.specs.Document.{dataset}
 use Rattle.id_issuer.specs.IssuedList.{list_with}
-use Rattle.worked_examples.proofs.Calls.{valid_call}
+use Rattle.worked_examples.proofs.ValidCalls.{valid_call}
 use Rattle.worked_examples.proofs.calls.call.Goals as goal
 
 pub n_degree-requires-clause-call : goal.n_degree-requires-clause-call
