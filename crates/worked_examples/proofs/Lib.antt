@@ -1,2 +1,1 @@
 pub mod ValidQuads
-pub mod ValidCalls

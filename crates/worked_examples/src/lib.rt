@@ -4,8 +4,6 @@
 #[cfg(test)]
 mod arranged;
 #[cfg(test)]
-mod calls;
-#[cfg(test)]
 mod drafts;
 #[cfg(test)]
 mod edges;
