@@ -1,0 +1,206 @@
+-- The triples that are left at a node, by their places.
+use Rattle.std.proofs.Common.{◌≡◌, ℕ, zero, suc, ◌<◌, ◌⊎◌, ◌↔◌, Bool, true, false, ◌||◌, cond, List, [], ◌∷◌, length, map, Option, Some, None, slice_get, refl, sym, ap, ◌∙◌, subst, inl, inr, arith, true≢false}
+use Rattle.std.specs.List.{filter, list_any}
+use Rattle.std.specs.Option.{option_map, IfSome}
+use Rattle.std.proofs.lemmas.List.{length-map}
+use Rattle.std.proofs.lemmas.Option.{slice_get-get_or, slice_get-map}
+use Rattle.rdf_terms.specs.Lists.{In, numbers_below}
+use Rattle.rdf_terms.specs.Terms.{Statement}
+use Rattle.rdf_terms.specs.Dataset.{mentions, is_node, is_named_by, IsUsed}
+use Rattle.rdf_terms.specs.Document.{Document, statement, statements, term_at, graph_name_at}
+use Rattle.rdf_terms.specs.declared.term.Term.{Term}
+use Rattle.rdf_terms.specs.declared.term.Term.TheVariants.{Iri, Blank, Literal}
+use Rattle.rdf_terms.specs.declared.term.Quad.{Quad}
+use Rattle.rdf_terms.proofs.Membership.{In-map, from_In-map, In-at, In-append_left, In-append_right}
+use Rattle.rdf_terms.proofs.Ranks.{In-filter, In-numbers_below}
+use Rattle.dataset_index.specs.Mentions.{mentioned_by, node_in, places_of}
+use Rattle.dataset_index.proofs.Building.{node_below}
+use Rattle.graph_model.specs.Components.{ShareTriple}
+use Rattle.graph_model.proofs.Maps.{by_subject, by_object, or_cases, eqb-itself}
+use Rattle.map_search.specs.Index.{kept, quad_at, no_quad}
+use Rattle.map_search.specs.Marks.{mark_at}
+use Rattle.map_search.proofs.Bridging.{is_node-blank}
+use Rattle.map_search.proofs.Indexing.{In-kept, kept-In}
+use Rattle.lean_search.specs.Image.{IsOneGraph, left, quads_left}
+use Rattle.lean_search.specs.Walk.{IsNear}
+
+-- ---- lists
+
+filter-In : {A : Type 0} (p : A → Bool) (xs : List A) (x : A) → In x xs → p x ≡ true → In x (filter p xs)
+filter-In p [] x i e = absurd i
+filter-In {A} p (y ∷ ys) x i e = by (p y) refl i (filter-In p ys x)
+  where
+    by : (b : Bool) → p y ≡ b → In x (y ∷ ys) → (In x ys → p x ≡ true → In x (filter p ys)) → In x (cond b (y ∷ filter p ys) (filter p ys))
+    by true f (inl g) ih = inl g
+    by true f (inr j) ih = inr (ih j e)
+    by false f (inl g) ih = absurd (true≢false (sym e ∙ (ap p g ∙ f)))
+    by false f (inr j) ih = ih j e
+
+earlier : (k n : ℕ) → k < suc n → (k < n) ⊎ (k ≡ n)
+earlier k n l = grind arith
+
+pub numbers_below-In : (n k : ℕ) → k < n → In k (numbers_below n)
+numbers_below-In zero k l = absurd (omega arith)
+numbers_below-In (suc n) k l = elim (earlier k n l) [ inl m ↦ In-append_left (numbers_below n) (n ∷ []) k (numbers_below-In n k m) | inr e ↦ In-append_right (numbers_below n) (n ∷ []) k (inl e) ]
+
+-- ---- the places of a node
+
+at_place : (d : Document) (k : ℕ) → k < length d.quads → slice_get (statements d) k ≡ Some (statement d.terms (quad_at d.quads k))
+at_place d k l = slice_get-map (statement d.terms) d.quads k ∙ ap (option_map (statement d.terms)) (slice_get-get_or d.quads k no_quad l)
+
+-- the triple at the place is left, and mentions the node
+pub record IsLeftAt (d : Document) (live : List Bool) (n k : ℕ) : Type 0 where
+  pub within : k < length d.quads
+  pub is_left : mark_at live k ≡ true
+  pub mentioned : mentions n (statement d.terms (quad_at d.quads k)) ≡ true
+
+pub place_left : (d : Document) (live : List Bool) (n k : ℕ) → In k (filter (mark_at live) (places_of (statements d) n)) → IsLeftAt d live n k
+place_left d live n k i =
+    let p = In-filter (mark_at live) (places_of (statements d) n) k i in
+    let q = In-filter (λ k. mentioned_by n (slice_get (statements d) k)) (numbers_below (length (statements d))) k p.0 in
+    let l : k < length (statements d) = In-numbers_below (length (statements d)) k q.0 in
+    let m : length (statements d) ≡ length d.quads = length-map d.quads (statement d.terms) in
+    let w : k < length d.quads = omega arith in
+    record { within = w; is_left = p.1; mentioned = ap (mentioned_by n) (sym (at_place d k w)) ∙ q.1 }
+
+pub left_place : (d : Document) (live : List Bool) (n k : ℕ) → IsLeftAt d live n k → In k (filter (mark_at live) (places_of (statements d) n))
+left_place d live n k at =
+    let m : length (statements d) ≡ length d.quads = length-map d.quads (statement d.terms) in
+    let l : k < length (statements d) = (let w = at.within in omega arith) in
+    let e : mentioned_by n (slice_get (statements d) k) ≡ true = ap (mentioned_by n) (at_place d k at.within) ∙ at.mentioned in
+    filter-In (mark_at live) (places_of (statements d) n) k (filter-In (λ k. mentioned_by n (slice_get (statements d) k)) (numbers_below (length (statements d))) k (numbers_below-In (length (statements d)) k l) e) at.is_left
+
+pub place_of_node : (d : Document) (n k : ℕ) → In k (places_of (statements d) n) → (k < length d.quads) × (mentions n (statement d.terms (quad_at d.quads k)) ≡ true)
+place_of_node d n k i =
+    let q = In-filter (λ k. mentioned_by n (slice_get (statements d) k)) (numbers_below (length (statements d))) k i in
+    let l : k < length (statements d) = In-numbers_below (length (statements d)) k q.0 in
+    let m : length (statements d) ≡ length d.quads = length-map d.quads (statement d.terms) in
+    let w : k < length d.quads = omega arith in
+    (w, ap (mentioned_by n) (sym (at_place d k w)) ∙ q.1)
+
+-- ---- the triples that are left
+
+pub In-left : (d : Document) (live : List Bool) (k : ℕ) → k < length d.quads → mark_at live k ≡ true → In (statement d.terms (quad_at d.quads k)) (left d live)
+In-left d live k l e = In-map (statement d.terms) (quads_left d live) (quad_at d.quads k) (kept-In d.quads live k l e)
+
+-- a triple that is left has a place
+pub record HasPlace (d : Document) (live : List Bool) (st : Statement) : Type 0 where
+  pub place : ℕ
+  pub within : place < length d.quads
+  pub is_left : mark_at live place ≡ true
+  pub is : st ≡ statement d.terms (quad_at d.quads place)
+
+pub has_place : (d : Document) (live : List Bool) (st : Statement) → In st (left d live) → HasPlace d live st
+has_place d live st i =
+    let p = from_In-map (statement d.terms) (quads_left d live) st i in
+    let k = In-kept p.0 d.quads live p.1 in
+    record { place = k.0; within = k.1; is_left = k.3; is = p.2 ∙ ap (statement d.terms) (sym k.2) }
+
+pub used_left : (d : Document) (live : List Bool) (n k : ℕ) → IsLeftAt d live n k → IsUsed (left d live) n
+used_left d live n k at = record { statement = statement d.terms (quad_at d.quads k); there = In-left d live k at.within at.is_left; mentioned = at.mentioned }
+
+pub left_used : (d : Document) (live : List Bool) (n : ℕ) → IsUsed (left d live) n → (k : ℕ) × IsLeftAt d live n k
+left_used d live n u =
+    let p = has_place d live u.statement u.there in
+    (p.place, record { within = p.within; is_left = p.is_left; mentioned = ap (mentions n) (sym p.is) ∙ u.mentioned })
+
+-- ---- the ends of a triple
+
+node_in-blank : (t : Term) (n : ℕ) → node_in t ≡ Some n → t ≡ Blank n
+node_in-blank (Iri t) n e = cc
+node_in-blank (Blank m) n e = ap Blank (same e)
+  where
+    same : Some m ≡ Some n → m ≡ n
+    same f = cc
+node_in-blank (Literal l) n e = cc
+
+pub blank-is_node : (n : ℕ) (t : Term) → t ≡ Blank n → is_node n t ≡ true
+blank-is_node n t e = ap (is_node n) e ∙ eqb-itself n
+
+pub In-quad_at : (quads : List Quad) (k : ℕ) → k < length quads → In (quad_at quads k) quads
+In-quad_at quads k l = In-at quads k (quad_at quads k) (slice_get-get_or quads k no_quad l)
+
+-- a node that a triple without a graph name mentions is one of its ends
+pub mentioned_end : (d : Document) → IsOneGraph d → (k n : ℕ) → k < length d.quads → mentions n (statement d.terms (quad_at d.quads k)) ≡ true → (term_at d.terms (quad_at d.quads k).s ≡ Blank n) ⊎ (term_at d.terms (quad_at d.quads k).o ≡ Blank n)
+mentioned_end d one k n l m = elim (or_cases (is_node n (term_at d.terms (quad_at d.quads k).s)) _ m) [ inl s ↦ inl (is_node-blank n (term_at d.terms (quad_at d.quads k).s) s) | inr r ↦ elim (or_cases (is_node n (term_at d.terms (quad_at d.quads k).o)) (is_named_by n (graph_name_at d.terms (quad_at d.quads k).g)) r) [ inl o ↦ inr (is_node-blank n (term_at d.terms (quad_at d.quads k).o) o) | inr g ↦ absurd (true≢false (sym g ∙ ap (λ w. is_named_by n (graph_name_at d.terms w)) (one.unnamed (quad_at d.quads k) (In-quad_at d.quads k l)))) ] ]
+
+-- a node that is mentioned is one of the document
+pub node_within : (d : Document) → IsOneGraph d → (k n : ℕ) → k < length d.quads → mentions n (statement d.terms (quad_at d.quads k)) ≡ true → n < length d.labels
+node_within d one k n l m =
+    let r = one.in_range (quad_at d.quads k) (In-quad_at d.quads k l) in
+    elim (mentioned_end d one k n l m) [ inl e ↦ node_below d one.document n (quad_at d.quads k).s (slice_get-get_or d.terms (quad_at d.quads k).s (Blank 0) r.s ∙ ap Some e) | inr e ↦ node_below d one.document n (quad_at d.quads k).o (slice_get-get_or d.terms (quad_at d.quads k).o (Blank 0) r.o ∙ ap Some e) ]
+
+pub used_within : (d : Document) (live : List Bool) → IsOneGraph d → (n : ℕ) → IsUsed (left d live) n → n < length d.labels
+used_within d live one n u = (let p = left_used d live n u in node_within d one p.0 n p.1.within p.1.mentioned)
+
+-- a node that a triple of the document mentions is one of the document
+pub statement_within : (d : Document) → IsOneGraph d → (st : Statement) → In st (statements d) → (n : ℕ) → mentions n st ≡ true → n < length d.labels
+statement_within d one st i n m =
+    let p = from_In-map (statement d.terms) d.quads st i in
+    let k = quad_place d.quads p.0 p.1 in
+    node_within d one k.0 n k.1 (ap (mentions n) (ap (statement d.terms) k.2 ∙ sym p.2) ∙ m)
+  where
+    quad_place : (quads : List Quad) (q : Quad) → In q quads → (k : ℕ) × (k < length quads) × (quad_at quads k ≡ q)
+    quad_place [] q h = absurd h
+    quad_place (x ∷ xs) q (inl e) = (0, omega arith, sym e)
+    quad_place (x ∷ xs) q (inr h) = (let r = quad_place xs q h in (suc r.0, (let l = r.1 in omega arith), r.2))
+
+-- ---- ends near a node are those that share a triple with it
+
+pub near_shares : (d : Document) (live : List Bool) (node n : ℕ) → IsNear d (filter (mark_at live) (places_of (statements d) node)) n → ShareTriple (left d live) node n
+near_shares d live node n near =
+    let at = place_left d live node near.place near.there in
+    record {
+      triple = statement d.terms (quad_at d.quads near.place);
+      there = In-left d live near.place at.within at.is_left;
+      mentions_first = at.mentioned;
+      mentions_second = elim near.end [ inl e ↦ by_subject (statement d.terms (quad_at d.quads near.place)) n (blank-is_node n (term_at d.terms (quad_at d.quads near.place).s) (node_in-blank (term_at d.terms (quad_at d.quads near.place).s) n e)) | inr e ↦ by_object (statement d.terms (quad_at d.quads near.place)) n (blank-is_node n (term_at d.terms (quad_at d.quads near.place).o) (node_in-blank (term_at d.terms (quad_at d.quads near.place).o) n e)) ];
+    }
+
+pub shares_near : (d : Document) (live : List Bool) → IsOneGraph d → (node n : ℕ) → ShareTriple (left d live) node n → IsNear d (filter (mark_at live) (places_of (statements d) node)) n
+shares_near d live one node n share =
+    let p = has_place d live share.triple share.there in
+    record {
+      place = p.place;
+      there = left_place d live node p.place (record { within = p.within; is_left = p.is_left; mentioned = ap (mentions node) (sym p.is) ∙ share.mentions_first });
+      end = elim (mentioned_end d one p.place n p.within (ap (mentions n) (sym p.is) ∙ share.mentions_second)) [ inl e ↦ inl (ap node_in e) | inr e ↦ inr (ap node_in e) ];
+    }
+
+-- ---- whether a triple of a node is left
+
+any_In : (p : ℕ → Bool) (xs : List ℕ) → list_any p xs ≡ true → (x : ℕ) × In x xs × (p x ≡ true)
+any_In p [] e = absurd (true≢false (sym e))
+any_In p (x ∷ xs) e = by (p x) refl e (any_In p xs)
+  where
+    by : (b : Bool) → p x ≡ b → (b || list_any p xs) ≡ true → (list_any p xs ≡ true → (y : ℕ) × In y xs × (p y ≡ true)) → (y : ℕ) × In y (x ∷ xs) × (p y ≡ true)
+    by true f e ih = (x, inl refl, f)
+    by false f e ih = (let r = ih e in (r.0, inr r.1, r.2))
+
+In-any : (p : ℕ → Bool) (xs : List ℕ) (x : ℕ) → In x xs → p x ≡ true → list_any p xs ≡ true
+In-any p [] x i e = absurd i
+In-any p (y ∷ ys) x (inl f) e = (let g : p y ≡ true = ap p (sym f) ∙ e in rw g refl)
+In-any p (y ∷ ys) x (inr i) e = or_true (p y) (list_any p ys) (In-any p ys x i e)
+  where
+    or_true : (a b : Bool) → b ≡ true → (a || b) ≡ true
+    or_true true b h = refl
+    or_true false b h = h
+
+pub any_left : (d : Document) (live : List Bool) (n : ℕ) → (list_any (mark_at live) (places_of (statements d) n) ≡ true) ↔ IsUsed (left d live) n
+any_left d live n = (to, from)
+  where
+    to : list_any (mark_at live) (places_of (statements d) n) ≡ true → IsUsed (left d live) n
+    to e =
+        let p = any_In (mark_at live) (places_of (statements d) n) e in
+        let m = place_of_node d n p.0 p.1 in
+        used_left d live n p.0 (record { within = m.0; is_left = p.2; mentioned = m.1 })
+
+    from : IsUsed (left d live) n → list_any (mark_at live) (places_of (statements d) n) ≡ true
+    from u =
+        let p = left_used d live n u in
+        let i = In-filter (mark_at live) (places_of (statements d) n) p.0 (left_place d live n p.0 p.1) in
+        In-any (mark_at live) (places_of (statements d) n) p.0 i.0 i.1
+
+-- a node of a term is one of the document
+pub node_in_within : (d : Document) → IsOneGraph d → (k : ℕ) → k < length d.terms → (r : Option ℕ) → r ≡ node_in (term_at d.terms k) → IfSome r (λ n. n < length d.labels)
+node_in_within d one k l None e = tt
+node_in_within d one k l (Some n) e = node_below d one.document n k (slice_get-get_or d.terms k (Blank 0) l ∙ ap Some (node_in-blank (term_at d.terms k) n (sym e)))

@@ -1,0 +1,228 @@
+-- The search of a graph, from component to component.
+use Rattle.std.proofs.Common.{◌≡◌, ℕ, zero, suc, ◌+◌, ◌<◌, ◌≤◌, ◌⊎◌, ◌↔◌, Bool, true, false, List, [], ◌∷◌, ◌++◌, length, map, get_or, Option, Some, None, slice_get, refl, sym, ap, ◌∙◌, subst, inl, inr, arith, true≢false}
+use Rattle.std.specs.List.{All}
+use Rattle.std.proofs.lemmas.List.Elements.{All-push, All-nil}
+use Rattle.std.proofs.lemmas.Option.{get_or_from_slice_get, slice_get_within}
+use Rattle.rdf_terms.specs.Lists.{In, AreDistinct, numbers_below}
+use Rattle.rdf_terms.specs.Terms.{Statement}
+use Rattle.rdf_terms.specs.Dataset.{mentions, IsUsed}
+use Rattle.rdf_terms.specs.Document.{Document, statement, statements, term_at, IsInRange}
+use Rattle.rdf_terms.specs.declared.term.Term.{Term}
+use Rattle.rdf_terms.specs.declared.term.Term.TheVariants.{Iri, Blank, Literal}
+use Rattle.rdf_terms.specs.declared.term.Quad.{Quad}
+use Rattle.rdf_terms.proofs.Membership.{In-map, from_In-map}
+use Rattle.rdf_terms.proofs.Finishing.{All-from_each, AreDistinct-map}
+use Rattle.dataset_index.proofs.Building.{AreDistinct-from_map}
+use Rattle.graph_model.specs.Graphs.{mapped, composed}
+use Rattle.graph_model.specs.Components.{IsClosed, IsComponentWalk, IsMapOf, IsTight}
+use Rattle.graph_model.specs.Counts.{HasMoreMaps, IsPastSearch}
+use Rattle.graph_model.proofs.Counting.{length-within}
+use Rattle.rdf_terms.proofs.Ranks.{length-numbers_below}
+use Rattle.map_search.specs.Index.{kept, quad_at}
+use Rattle.map_search.specs.Laws.{IsInTriple}
+use Rattle.map_search.specs.Marks.{mark_at}
+use Rattle.map_search.specs.Numbers.{AreNumbers, Agrees, IsSaidBy}
+use Rattle.map_search.specs.Pattern.{map_of, Misses}
+use Rattle.map_search.proofs.Bridging.{number_is}
+use Rattle.map_search.proofs.Indexing.{In-kept, kept-In}
+use Rattle.lean_search.specs.Image.{IsOneGraph, AreTermsOf, left, quads_left}
+use Rattle.lean_search.specs.Outer.{IsInSettled, IsSearching, Marks}
+use Rattle.lean_search.specs.Searched.{IsLeanState, IsMarkedAs, IsSearchedAs, IsSettledTo, IsShrinking, IsTurned, IsUnderway, State, TakesStep}
+use Rattle.lean_search.specs.declared.component.Searched.{Searched}
+use Rattle.lean_search.specs.declared.component.Searched.TheVariants.{Tight, Shrunk, PastLimit as Stopped}
+use Rattle.lean_search.specs.Steps.{AreSteps, IsStep, map_by_steps}
+use Rattle.lean_search.specs.Walk.{IsWalk, IsWalkFrom}
+use Rattle.lean_search.specs.declared.steps.Step.{Step}
+use Rattle.lean_search.proofs.AtNodes.{IsLeftAt, left_used, mentioned_end, used_within, In-quad_at, numbers_below-In}
+use Rattle.lean_search.proofs.Composing.{agrees_composed}
+use Rattle.lean_search.proofs.Outside.{search_begins, search_shrinks, search_settles, search_goes_on, search_ends}
+use Rattle.lean_search.proofs.Shrinking.{fewer_left, is_image}
+use Rattle.lean_search.proofs.Walks.{IsMapOf-same, IsTight-same, walk_once, walk_used, walk_start, walk_closed, walk_began}
+
+-- ---- the numbers of a walk's terms
+
+pub numbers_of : (d : Document) (live : List Bool) (start : ℕ) (walk own : List ℕ) → IsOneGraph d → IsWalkFrom (left d live) start walk → AreTermsOf d walk own → ((k : ℕ) → In k own → k < length d.terms) → AreNumbers d.terms (quads_left d live) own walk
+numbers_of d live start walk own one w terms_are within = record {
+  terms_once = one.terms_once;
+  in_range = λ q i. one.in_range q (there q i);
+  unnamed = λ q i. one.unnamed q (there q i);
+  once = AreDistinct-from_map (term_at d.terms) own (subst AreDistinct (sym terms_are) (AreDistinct-map Blank walk (λ x y i j e. same x y e) (walk_once (left d live) start walk w)));
+  nodes_are = terms_are;
+  used = λ k i. (let p = from_In-map Blank walk (term_at d.terms k) (subst (λ l. In (term_at d.terms k) l) terms_are (In-map (term_at d.terms) own k i)) in in_triple k p.0 (within k i) p.2 (left_used d live p.0 (walk_used (left d live) start walk w p.0 p.1)));
+}
+  where
+    same : (x y : ℕ) → Blank x ≡ Blank y → x ≡ y
+    same x y e = cc
+
+    there : (q : Quad) → In q (quads_left d live) → In q d.quads
+    there q i = (let j = In-kept q d.quads live i in subst (λ x. In x d.quads) j.2 (In-quad_at d.quads j.0 j.1))
+
+    in_triple : (k n : ℕ) → k < length d.terms → term_at d.terms k ≡ Blank n → (j : ℕ) × IsLeftAt d live n j → IsInTriple (quads_left d live) k
+    in_triple k n l e p =
+        let r = one.in_range (quad_at d.quads p.0) (In-quad_at d.quads p.0 p.1.within) in
+        record {
+          triple = quad_at d.quads p.0;
+          there = kept-In d.quads live p.0 p.1.within p.1.is_left;
+          end = elim (mentioned_end d one p.0 n p.1.within p.1.mentioned) [ inl f ↦ inl (number_is d.terms one.terms_once k (quad_at d.quads p.0).s l r.s (e ∙ sym f)) | inr f ↦ inr (number_is d.terms one.terms_once k (quad_at d.quads p.0).o l r.o (e ∙ sym f)) ];
+        }
+
+pub walk_within : (d : Document) (live : List Bool) (walk : List ℕ) → IsOneGraph d → IsWalk (left d live) walk → All (λ n. n < length d.labels) walk
+walk_within d live walk one w = All-from_each (λ n. n < length d.labels) walk (λ n i. used_within d live one n (walk_used (left d live) w.0 walk w.1 n i))
+
+pub walk_some : (G : List Statement) (walk : List ℕ) → IsWalk G walk → 0 < length walk
+walk_some G walk w = (let e = ap length w.1.walk_is in omega arith)
+
+-- numbers of terms, each once, are fewer than the places that there may be
+pub own_few : (d : Document) (own : List ℕ) → IsOneGraph d → AreDistinct own → ((k : ℕ) → In k own → k < length d.terms) → length own < 4294967295
+own_few d own one once within =
+    let a : length own ≤ length (numbers_below (length d.terms)) = length-within own (numbers_below (length d.terms)) once (λ k i. numbers_below-In (length d.terms) k (within k i)) in
+    let b : length (numbers_below (length d.terms)) ≡ length d.terms = length-numbers_below (length d.terms) in
+    let c = one.document.draft.terms_bound in
+    let e = one.document.draft.quads_bound in
+    omega arith
+
+-- ---- a component that is not settled
+
+module _ (d : Document) (s : State) (settled : ℕ → Bool) (start : ℕ) (u : IsUnderway d s settled start) where
+  pub passed_gone : ¬ (IsUsed (left d s.live) start) → IsUnderway d s settled (start + 1)
+  passed_gone gone = record { μ = u.μ; searching = search_goes_on (statements d) (left d s.live) u.μ settled start u.searching (inr gone); are_steps = u.are_steps; agrees = u.agrees }
+
+  module _ (walk : List ℕ) (w : IsWalkFrom (left d s.live) start walk) where
+    pub passed_tight : (after : ℕ → Bool) → IsTight (left d s.live) walk → Marks walk settled after → IsUnderway d s after (start + 1)
+    passed_tight after tight marks = record {
+      μ = u.μ;
+      searching = search_goes_on (statements d) (left d s.live) u.μ after start (search_settles (statements d) (left d s.live) u.μ settled after start walk u.searching (record { closed = walk_closed (left d s.live) start walk w; tight = tight }) marks) (inl (marks.marks start (walk_start (left d s.live) start walk w)));
+      are_steps = u.are_steps;
+      agrees = u.agrees;
+    }
+
+    -- no node of the component is settled, since settled nodes hang together with settled ones alone
+    open_walk : settled start ≡ false → (n : ℕ) → In n walk → settled n ≡ false
+    open_walk f n i = by (settled n) refl
+      where
+        by : (b : Bool) → settled n ≡ b → settled n ≡ false
+        by false e = e
+        by true e =
+            let c = u.searching.settled_are n e in
+            absurd (true≢false (sym (c.all start (walk_began (left d s.live) start walk c.nodes w c.is_settled.closed n i c.there)) ∙ f))
+
+    pub still_underway : (t : State) (step : Step) → settled start ≡ false → t.steps ≡ s.steps ++ step ∷ [] → IsShrinking d walk s.live t.live step → IsUnderway d t settled start
+    still_underway t step f e shrinking = record {
+      μ = composed u.μ shrinking.ν;
+      searching = search_shrinks (statements d) (left d s.live) (left d t.live) u.μ shrinking.ν settled start walk u.searching shrinking.is_map shrinking.is_image (open_walk f);
+      are_steps = subst (AreSteps (length d.terms)) (sym e) (All-push (IsStep (length d.terms)) s.steps step u.are_steps shrinking.is_step);
+      agrees = subst (λ steps. Agrees d.terms (composed u.μ shrinking.ν) (map_by_steps steps)) (sym e) (agrees_composed d.terms u.μ shrinking.ν s.steps step u.agrees shrinking.agrees);
+    }
+
+    pub past_search : (limit : ℕ) → settled start ≡ false → HasMoreMaps (left d s.live) (left d s.live) walk limit → IsPastSearch (statements d) (left d s.live) limit
+    past_search limit f more = record {
+      μ = u.μ;
+      endomorphism = u.searching.shrunk.endomorphism;
+      is_image = u.searching.shrunk.is_image;
+      walk = walk;
+      is_walk = record {
+        first = start;
+        rest = w.rest;
+        walk_is = w.walk_is;
+        used = w.used;
+        least = All-from_each (λ n. start ≤ n) w.rest (λ n i. (let j : In n walk = subst (λ l. In n l) (sym w.walk_is) (inr i) in u.searching.ahead n (walk_used (left d s.live) start walk w n j) (open_walk f n j)));
+        goes_on = w.goes_on;
+      };
+      past = more;
+    }
+
+-- ---- a step that was taken
+
+pub step_shrinks : (d : Document) (old new : State) (walk own images : List ℕ) → IsOneGraph d → length old.live ≡ length d.quads → length new.live ≡ length d.quads
+    → AreDistinct own → All (λ t. t < length d.terms) own → length images ≡ length own → All (λ t. t < length d.terms) images
+    → IsSaidBy d.terms (quads_left d old.live) walk (map_of own images) → Misses (quads_left d old.live) own (map_of own images)
+    → TakesStep d own images old new → (s : Step) × (new.steps ≡ old.steps ++ s ∷ []) × IsShrinking d walk old.live new.live s
+step_shrinks d old new walk own images one a b once range count images_range said missed t = (
+  t.step,
+  t.steps_are,
+  record {
+    ν = said.μ;
+    is_map = said.is_map;
+    is_image = is_image d one old.live new.live walk (map_of own images) said t.reached;
+    is_step = record {
+      once = subst AreDistinct (sym t.terms_are) once;
+      count = ap length t.images_are ∙ (count ∙ ap length (sym t.terms_are));
+      in_range = subst (All (λ k. k < length d.terms)) (sym t.terms_are) range;
+      images_in_range = subst (All (λ k. k < length d.terms)) (sym t.images_are) images_range;
+    };
+    agrees = subst (λ xs. Agrees d.terms said.μ (map_of xs t.step.images.items)) (sym t.terms_are) (subst (λ ys. Agrees d.terms said.μ (map_of own ys)) (sym t.images_are) said.agrees);
+    fewer = fewer_left d one old.live new.live walk (map_of own images) said t.reached own a b missed;
+  },
+)
+
+-- what was found of a walk was found of one with the same nodes, but for the measure of the search
+pub searched_same : (d : Document) (xs ys : List ℕ) (limit : ℕ) (old new : State) (r : Searched) → ((n : ℕ) → In n xs ↔ In n ys) → (¬ (r ≡ Stopped)) → IsSearchedAs d xs limit old new r → IsSearchedAs d ys limit old new r
+searched_same d xs ys limit old new Tight same n s = (s.0, IsTight-same (left d old.live) xs ys same s.1)
+searched_same d xs ys limit old new Shrunk same n s = (
+  s.0,
+  s.1,
+  record {
+    ν = s.2.ν;
+    is_map = IsMapOf-same (left d old.live) xs ys s.2.ν same s.2.is_map;
+    is_image = s.2.is_image;
+    is_step = s.2.is_step;
+    agrees = s.2.agrees;
+    fewer = s.2.fewer;
+  },
+)
+searched_same d xs ys limit old new Stopped same n s = absurd (n refl)
+
+-- ---- the beginning and the end
+
+kept-all : (quads : List Quad) (live : List Bool) → ((k : ℕ) → k < length quads → mark_at live k ≡ true) → kept quads live ≡ quads
+kept-all [] live h = refl
+kept-all (q ∷ qs) [] h = absurd (true≢false (sym (h 0 (omega arith))))
+kept-all (q ∷ qs) (true ∷ bs) h = ap (λ l. q ∷ l) (kept-all qs bs (λ k l. h (suc k) (omega arith)))
+kept-all (q ∷ qs) (false ∷ bs) h = absurd (true≢false (sym (h 0 (omega arith))))
+
+mapped-itself : (t : Term) → t ≡ mapped Blank t
+mapped-itself (Iri t) = refl
+mapped-itself (Blank n) = refl
+mapped-itself (Literal l) = refl
+
+pub underway_begins : (d : Document) (s : State) (settled : ℕ → Bool) → IsOneGraph d → ((k : ℕ) → k < length d.quads → mark_at s.live k ≡ true) → s.steps ≡ [] → ((n : ℕ) → settled n ≡ false) → IsUnderway d s settled 0
+underway_begins d s settled one all none unmarked = record {
+  μ = Blank;
+  searching = subst (λ qs. IsSearching (statements d) Blank (map (statement d.terms) qs) settled 0) (sym (kept-all d.quads s.live all)) (search_begins (statements d) settled one.document.draft.distinct unmarked);
+  are_steps = subst (AreSteps (length d.terms)) (sym none) (All-nil (IsStep (length d.terms)));
+  agrees = subst (λ steps. Agrees d.terms Blank (map_by_steps steps)) (sym none) (record { within = λ k l. l; same = λ k l. mapped-itself (term_at d.terms k) });
+}
+
+pub underway_ends : (d : Document) (s : State) (settled : ℕ → Bool) → IsOneGraph d → IsUnderway d s settled (length d.labels) → IsLeanState d s
+underway_ends d s settled one u = record {
+  μ = u.μ;
+  shrunk = u.searching.shrunk;
+  lean = search_ends (statements d) (left d s.live) u.μ settled (length d.labels) u.searching (λ n used. used_within d s.live one n used);
+  are_steps = u.are_steps;
+  agrees = u.agrees;
+}
+
+pub underway_passed : (d : Document) (s : State) (settled : ℕ → Bool) (start : ℕ) → settled start ≡ true → IsUnderway d s settled start → IsUnderway d s settled (start + 1)
+underway_passed d s settled start e u = record { μ = u.μ; searching = search_goes_on (statements d) (left d s.live) u.μ settled start u.searching (inl e); are_steps = u.are_steps; agrees = u.agrees }
+
+-- ---- one turn
+
+pub turned : (d : Document) (limit start : ℕ) (walk : List ℕ) (old new : State) (before after : List Bool) (r : Searched) → IsUnderway d old (mark_at before) start → mark_at before start ≡ false → IsWalkFrom (left d old.live) start walk → IsSearchedAs d walk limit old new r → IsMarkedAs walk before after r → IsTurned d limit start old new after r
+turned d limit start walk old new before after Tight u f w s m = passed_tight d new (mark_at before) start (subst (λ t. IsUnderway d t (mark_at before) start) (sym s.0) u) walk (subst (λ (t : State). IsWalkFrom (left d t.live) start walk) (sym s.0) w) (mark_at after) (subst (λ (t : State). IsTight (left d t.live) walk) (sym s.0) s.1) m
+turned d limit start walk old new before after Shrunk u f w s m = record {
+  underway = subst (λ ms. IsUnderway d new (mark_at ms) start) (sym m) (still_underway d old (mark_at before) start u walk w new s.0 f s.1 s.2);
+  unsettled = subst (λ ms. mark_at ms start ≡ false) (sym m) f;
+  fewer = s.2.fewer;
+}
+turned d limit start walk old new before after Stopped u f w s m = subst (λ (t : State). IsPastSearch (statements d) (left d t.live) limit) (sym s.0) (past_search d old (mark_at before) start u walk w limit f s.1)
+
+-- where the graph is searched to its last node
+pub searched_to : (d : Document) (s : State) (settled : List Bool) (from : ℕ) → IsOneGraph d → from ≡ length d.labels → IsUnderway d s (mark_at settled) from → IsLeanState d s
+searched_to d s settled from one e u = underway_ends d s (mark_at settled) one (subst (IsUnderway d s (mark_at settled)) e u)
+
+-- what it leaves where it stops
+pub past_search_of : (d : Document) (limit : ℕ) (s : State) (settled : List Bool) (from : ℕ) (b : Bool) → b ≡ false → IsSettledTo d limit s (mark_at settled) from b → IsPastSearch (statements d) (left d s.live) limit
+past_search_of d limit s settled from b e h = subst (IsSettledTo d limit s (mark_at settled) from) e h
+
+pub underway_of : (d : Document) (limit : ℕ) (s : State) (settled : List Bool) (from : ℕ) (b : Bool) → b ≡ true → IsSettledTo d limit s (mark_at settled) from b → IsUnderway d s (mark_at settled) from
+underway_of d limit s settled from b e h = subst (IsSettledTo d limit s (mark_at settled) from) e h

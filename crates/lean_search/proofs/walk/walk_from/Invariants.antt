@@ -1,0 +1,14 @@
+use Rattle.std.proofs.Common.{◌≡◌, ◌≤◌, length}
+use Rattle.lean_search.specs.Image.{left}
+use Rattle.lean_search.specs.Walk.{IsWalking, HasWalked, count_unmarked}
+use Rattle.lean_search.proofs.walk.walk_from.Given as goal
+
+abbrev pub invariant-loop-next : goal.invariant-loop-next
+invariant-loop-next l = record {
+  room : length l.graph.labels ≤ length l.ahead;
+  walking : IsWalking (left l.graph l.index.live) l.walk.items l.walked l.ahead;
+  walks : HasWalked (left l.graph l.index.live) l.start l.walk.items l.next;
+}
+
+abbrev pub decreases-loop-next : goal.decreases-loop-next
+decreases-loop-next l = count_unmarked l.walked

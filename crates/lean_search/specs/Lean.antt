@@ -1,0 +1,47 @@
+-- What `lean` answers.
+use Rattle.std.specs.Prelude.{◌≡◌, ℕ, ◌<◌, List, map, length, Option, Some, None, IsSome, slice_get, slice_index, All}
+use Rattle.rdf_terms.specs.Lists.{In}
+use Rattle.rdf_terms.specs.Terms.{Statement}
+use Rattle.rdf_terms.specs.Document.{Document, statement, statements, term_at}
+use Rattle.rdf_terms.specs.declared.term.Term.{Term}
+use Rattle.rdf_terms.specs.declared.term.Quad.{Quad}
+use Rattle.dataset_index.specs.QuadOrder.{Ascend}
+use Rattle.graph_model.specs.Graphs.{IsGraph, IsLean}
+use Rattle.graph_model.specs.Laws.{IsShrunk}
+use Rattle.graph_model.specs.Counts.{IsPastSearch}
+use Rattle.lean_search.specs.declared.form.LeanForm.{LeanForm}
+use Rattle.lean_search.specs.declared.form.LeanStop.{LeanStop}
+use Rattle.lean_search.specs.declared.form.LeanStop.TheVariants.{NotOneGraph, SearchLimit, NoMemory}
+
+-- the map that takes each node to the term with the number at its place
+abbrev pub map_by : List Term → List ℕ → ℕ → Term
+map_by terms numbers n = term_at terms (slice_index numbers n)
+
+abbrev pub triples_of : Document → List Quad → List Statement
+triples_of d quads = map (statement d.terms) quads
+
+-- the quads are lean, and the map is an endomorphism of the graph with them as its image
+pub record IsLeanForm (d : Document) (form : LeanForm) : Type 0 where
+  pub graph : IsGraph (statements d)
+  pub count : length form.map ≡ length d.labels
+  pub in_range : All (λ n. n < length d.terms) form.map
+  pub ascend : Ascend form.quads
+  pub shrunk : IsShrunk (statements d) (map_by d.terms form.map) (triples_of d form.quads)
+  pub lean : IsLean (triples_of d form.quads)
+
+-- the first quad with a graph name
+pub record IsFirstNamed (quads : List Quad) (quad : Quad) : Type 0 where
+  pub place : ℕ
+  pub there : slice_get quads place ≡ Some quad
+  pub named : IsSome quad.g
+  pub none_before : (k : ℕ) (q : Quad) → k < place → slice_get quads k ≡ Some q → q.g ≡ None
+
+pub record IsPastLimit (d : Document) (limit : ℕ) (image : List Quad) : Type 0 where
+  pub graph : IsGraph (statements d)
+  pub ascend : Ascend image
+  pub past : IsPastSearch (statements d) (triples_of d image) limit
+
+abbrev pub IsLeanStop : Document → ℕ → LeanStop → Type 0
+IsLeanStop d limit (NotOneGraph quad) = IsFirstNamed d.quads quad
+IsLeanStop d limit (SearchLimit image) = IsPastLimit d limit image
+IsLeanStop d limit NoMemory = Unit {0}

@@ -1,0 +1,9 @@
+pub mod Lean
+pub mod Outer
+pub mod Image
+pub mod Walk
+pub mod Steps
+pub mod Places
+pub mod Searched
+pub mod Room
+pub mod Asked

@@ -1,0 +1,55 @@
+//! What the search of a graph works with.
+ghost use Rattle.std.specs.Prelude.{◌≡◌, ◌<◌, ℕ, true, false, [], length, slice_index, IfOk};
+ghost use Rattle.map_search.specs.Marks.{mark_at};
+ghost use Rattle.lean_search.specs.Image.{IsOneGraph};
+ghost use Rattle.lean_search.specs.Room.{IsRoom};
+
+use crate::places::NONE;
+use crate::steps::Step;
+use dataset_index::Dataset;
+use map_search::{Index, Marks};
+use rdf_terms::NoMemory;
+use std::alloc::Global;
+
+/// The triples that are left, and the steps that led there. A walk through a component and its search
+/// touch the places and marks of its own nodes alone, and take them back.
+#[derive(Drop)]
+pub struct Room {
+    pub index: Index,
+    pub steps: Vec<Step>,
+    pub place_of: Vec<u32>,
+    pub walked: Vec<bool>,
+    pub ahead: Marks,
+}
+
+fn no_places(alloc: Global, terms: u32) -> Result<Vec<u32>, NoMemory>
+    ensures count { IfOk result (λ places. length places.items ≡ terms) }
+    ensures none { IfOk result (λ places. (t : ℕ) → t < terms → slice_index places.items t ≡ NONE) }
+{
+    Ok(vec![in alloc; NONE; terms as usize]?)
+}
+
+pub fn no_marks(alloc: Global, count: u32) -> Result<Vec<bool>, NoMemory>
+    ensures count { IfOk result (λ marks. length marks.items ≡ count) }
+    ensures none { IfOk result (λ marks. (k : ℕ) → k < count → mark_at marks.items k ≡ false) }
+{
+    Ok(vec![in alloc; false; count as usize]?)
+}
+
+/// Room for the search of the graph, of which all is left.
+pub fn make_room(alloc: Global, graph: &Dataset) -> Result<Room, NoMemory>
+    requires { IsOneGraph graph.now }
+    ensures room { IfOk result (IsRoom graph.now) }
+    ensures all { IfOk result (λ room. (k : ℕ) → k < length graph.now.quads → mark_at room.index.live k ≡ true) }
+    ensures steps { IfOk result (λ room. room.steps.items ≡ []) }
+{
+    let nodes = graph.node_count();
+    let terms = graph.terms().len();
+    Ok(Room {
+        index: Index::build(alloc, graph.quads(), terms)?,
+        steps: Vec::new(alloc),
+        place_of: no_places(alloc, terms)?,
+        walked: no_marks(alloc, nodes)?,
+        ahead: Marks::new(alloc, nodes as usize, false)?,
+    })
+}
