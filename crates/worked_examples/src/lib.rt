@@ -16,8 +16,6 @@ mod hashes;
 #[cfg(test)]
 mod issuers;
 #[cfg(test)]
-mod pieces;
-#[cfg(test)]
 mod references;
 #[cfg(test)]
 mod runs;
