@@ -3,17 +3,19 @@ use Rattle.std.proofs.Common.{◌≡◌, ℕ, true, ◌⊎◌, List, [], ◌∷�
 use Rattle.rdf_terms.specs.Lists.{In, Permutes, permutes_trans, is_at_most}
 use Rattle.rdf_terms.proofs.Permutations.{Permutes-refl, Permutes-sym}
 use Rattle.rdf_terms.proofs.TextOrder.{is_at_most-total}
-use Rattle.arrangements.specs.Arrangements.{IsFirst, IsNext, GoesThrough, at_last, goes_on, Ascends, ComesToALast}
+use Rattle.arrangements.specs.Arrangements.{IsFirst, IsNext, GoesThrough, at_last, goes_on, ComesToALast}
 use Rattle.arrangements.proofs.Order.{Below, AtMost, Below-is_before, is_at_most-AtMost, AtMost-is_at_most, Below-at_most, Below-irreflexive}
-use Rattle.arrangements.proofs.Enumeration.{arrangements_of, In-arrangements_of, from_In-arrangements_of, Ascends-arrangements_of}
+use Rattle.rdf_terms.specs.Arrangements.{AreStrictlyAscending, arrangements}
+use Rattle.rdf_terms.proofs.Arrangements.{In-arrangements, from_In-arrangements}
+use Rattle.rdf_terms.proofs.AscendingArrangements.{arrangements-ascending}
 
 -- xs and the lists behind it are all the arrangements of its bag from xs on
 record AreTheRest (xs : List ℕ) (more : List (List ℕ)) : Type 0 where
-  ascend : Ascends (xs ∷ more)
+  ascend : AreStrictlyAscending (xs ∷ more)
   permutes : (ys : List ℕ) → In ys more → Permutes xs ys
   all : (ys : List ℕ) → Permutes xs ys → AtMost xs ys → In ys (xs ∷ more)
 
-at_least : (xs ys : List ℕ) (more : List (List ℕ)) → Ascends (xs ∷ more) → In ys (xs ∷ more) → AtMost xs ys
+at_least : (xs ys : List ℕ) (more : List (List ℕ)) → AreStrictlyAscending (xs ∷ more) → In ys (xs ∷ more) → AtMost xs ys
 at_least xs ys more a (inl e) = inl (sym e)
 at_least xs ys more a (inr h) = inr (Below-is_before xs ys (a.0 ys h))
 
@@ -51,20 +53,20 @@ goes xs (ys ∷ rest) r = goes_on next (goes ys rest later)
     }
 
 pub comes_to_a_last : ComesToALast
-comes_to_a_last bag = from (arrangements_of bag) refl
+comes_to_a_last bag = from (arrangements bag) refl
   where
-    from : (all : List (List ℕ)) → arrangements_of bag ≡ all → (xs : List ℕ) × (all : List (List ℕ)) × IsFirst bag xs × GoesThrough xs all
-    from [] e = absurd (subst (In bag) e (In-arrangements_of bag bag (Permutes-refl bag)))
+    from : (all : List (List ℕ)) → arrangements bag ≡ all → (xs : List ℕ) × (all : List (List ℕ)) × IsFirst bag xs × GoesThrough xs all
+    from [] e = absurd (subst (In bag) e (In-arrangements bag bag (Permutes-refl bag)))
     from (xs ∷ more) e = (xs, xs ∷ more, first, goes xs more rest)
       where
-        ascend : Ascends (xs ∷ more)
-        ascend = subst Ascends e (Ascends-arrangements_of bag)
+        ascend : AreStrictlyAscending (xs ∷ more)
+        ascend = subst AreStrictlyAscending e (arrangements-ascending bag)
 
         one : (ys : List ℕ) → In ys (xs ∷ more) → Permutes bag ys
-        one ys h = from_In-arrangements_of bag ys (subst (In ys) (sym e) h)
+        one ys h = from_In-arrangements bag ys (subst (In ys) (sym e) h)
 
         there : (ys : List ℕ) → Permutes bag ys → In ys (xs ∷ more)
-        there ys p = subst (In ys) e (In-arrangements_of bag ys p)
+        there ys p = subst (In ys) e (In-arrangements bag ys p)
 
         first : IsFirst bag xs
         first = record { permutes = one xs (inl refl); least = λ ys p. is_at_most-AtMost xs ys (at_least xs ys more ascend (there ys p)) }

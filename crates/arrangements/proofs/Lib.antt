@@ -2,5 +2,4 @@ pub mod Permuting
 pub mod Order
 pub mod Stepping
 pub mod Sequence
-pub mod Enumeration
 pub mod Ending

@@ -1,9 +1,10 @@
 -- The steps from one arrangement to the next, up to the last.
 use Rattle.std.proofs.Common.{◌≡◌, ℕ, List, inl, inr, refl, sym, subst}
 use Rattle.rdf_terms.specs.Lists.{In, Permutes, permutes_trans}
-use Rattle.arrangements.specs.Arrangements.{GoesThrough, at_last, goes_on, Ascends, GoesThroughAll}
+use Rattle.arrangements.specs.Arrangements.{GoesThrough, at_last, goes_on, GoesThroughAll}
 use Rattle.rdf_terms.proofs.Permutations.{Permutes-refl, Permutes-sym}
 use Rattle.arrangements.proofs.Order.{AtMost, is_before-Below, Below-is_before, AtMost-is_at_most, Below-trans, Below-at_most, Below-irreflexive}
+use Rattle.rdf_terms.specs.Arrangements.{AreStrictlyAscending}
 
 both_at_most : (xs ys : List ℕ) → AtMost xs ys → AtMost ys xs → ys ≡ xs
 both_at_most xs ys (inl e) h = sym e
@@ -26,7 +27,7 @@ comes_by_each (goes_on {xs = xs} next more) ys p (inl e) = inl (sym e)
 comes_by_each (goes_on {xs = xs} {ys = zs} next more) ys p (inr b) =
     inr (comes_by_each more ys (permutes_trans (Permutes-sym next.permutes) p) (AtMost-is_at_most zs ys (next.least ys p (is_before-Below xs ys b))))
 
-ascends : {xs : List ℕ} {all : List (List ℕ)} → GoesThrough xs all → Ascends all
+ascends : {xs : List ℕ} {all : List (List ℕ)} → GoesThrough xs all → AreStrictlyAscending all
 ascends (at_last last) = (λ ys h. absurd h, tt)
 ascends (goes_on {xs = xs} {ys = zs} next more) =
     (λ ys h. is_before-Below xs ys (Below-at_most xs zs ys (Below-is_before xs zs next.behind) (come_by more ys h).1), ascends more)

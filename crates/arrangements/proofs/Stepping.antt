@@ -9,6 +9,8 @@ use Rattle.arrangements.specs.Falling.{FallsFrom, IsLastRise, IsLastAbove}
 use Rattle.rdf_terms.proofs.Permutations.{Permutes-sym, In-Permutes, length-Permutes}
 use Rattle.arrangements.proofs.Permuting.{Permutes-rest, Permutes-reverse, traded}
 use Rattle.arrangements.proofs.Order.{Below, AtMost, AtMost-cons, three, is_before-Below, Below-is_before, is_at_most-AtMost, AtMost-is_at_most, Below-trans, Below-irreflexive}
+use Rattle.rdf_terms.proofs.Membership.{In-append}
+use Rattle.rdf_terms.proofs.MadeLists.{In-get_or, place_within}
 
 -- ---- lists that fall or climb
 
@@ -59,23 +61,14 @@ climbs_first (x ∷ xs) (z ∷ zs) f p = by (three z x) (climbs_first xs zs f.1)
 
 -- ---- turning round
 
-In-append_either : (y : ℕ) (xs : List ℕ) (x : ℕ) → In y (xs ++ x ∷ []) → In y xs ⊎ (y ≡ x)
-In-append_either y [] x (inl e) = inr e
-In-append_either y [] x (inr h) = absurd h
-In-append_either y (z ∷ xs) x (inl e) = inl (inl e)
-In-append_either y (z ∷ xs) x (inr h) = by (In-append_either y xs x h)
-  where
-    by : In y xs ⊎ (y ≡ x) → In y (z ∷ xs) ⊎ (y ≡ x)
-    by (inl i) = inl (inr i)
-    by (inr e) = inr e
-
 climbs_push : (xs : List ℕ) (x : ℕ) → Climbs xs → ((y : ℕ) → In y xs → y ≤ x) → Climbs (xs ++ x ∷ [])
 climbs_push [] x c le = (λ y h. absurd h, tt)
-climbs_push (z ∷ xs) x c le = (λ y h. by y (In-append_either y xs x h), climbs_push xs x c.1 (λ y h. le y (inr h)))
+climbs_push (z ∷ xs) x c le = (λ y h. by y (In-append xs (x ∷ []) y h), climbs_push xs x c.1 (λ y h. le y (inr h)))
   where
-    by : (y : ℕ) → In y xs ⊎ (y ≡ x) → z ≤ y
+    by : (y : ℕ) → In y xs ⊎ In y (x ∷ []) → z ≤ y
     by y (inl i) = c.0 y i
-    by y (inr e) = let l = le z (inl refl) in omega arith
+    by y (inr (inl e)) = let l = le z (inl refl) in omega arith
+    by y (inr (inr h)) = absurd h
 
 climbs_reverse : (xs : List ℕ) → Falls xs → Climbs (reverse xs)
 climbs_reverse [] f = tt
@@ -83,16 +76,6 @@ climbs_reverse (x ∷ xs) f =
     subst Climbs (sym (reverse-cons x xs)) (climbs_push (reverse xs) x (climbs_reverse xs f.1) (λ y h. f.0 y (In-Permutes y (Permutes-sym (Permutes-reverse xs)) h)))
 
 -- ---- members and places
-
-In-get_or : (xs : List ℕ) (k : ℕ) → k < length xs → In (get_or xs k 0) xs
-In-get_or [] k h = absurd (omega arith)
-In-get_or (x ∷ xs) zero h = inl refl
-In-get_or (x ∷ xs) (suc k) h = inr (In-get_or xs k (omega arith))
-
-place_in : (z : ℕ) (xs : List ℕ) → In z xs → (k : ℕ) × (k < length xs) × (get_or xs k 0 ≡ z)
-place_in z [] h = absurd h
-place_in z (x ∷ xs) (inl e) = (0, omega arith, sym e)
-place_in z (x ∷ xs) (inr h) = let r = place_in z xs h in (suc r.0, omega (arith, r.1), r.2)
 
 In-set : (z : ℕ) (xs : List ℕ) (j x : ℕ) → In z (set xs j x) → In z xs ⊎ (z ≡ x)
 In-set z [] j x h = absurd h
@@ -108,7 +91,7 @@ In-set z (y ∷ xs) (suc j) x (inr h) = by (In-set z xs j x h)
 falls_along : (xs : List ℕ) (i j : ℕ) → Falls xs → i ≤ j → j < length xs → get_or xs j 0 ≤ get_or xs i 0
 falls_along [] i j f le h = absurd (omega arith)
 falls_along (x ∷ xs) zero zero f le h = omega arith
-falls_along (x ∷ xs) zero (suc j) f le h = f.0 (get_or xs j 0) (In-get_or xs j (omega arith))
+falls_along (x ∷ xs) zero (suc j) f le h = f.0 (get_or xs j 0) (In-get_or xs j 0 (omega arith))
 falls_along (x ∷ xs) (suc i) zero f le h = absurd (omega arith)
 falls_along (x ∷ xs) (suc i) (suc j) f le h = falls_along xs i j f.1 (omega arith) (omega arith)
 
@@ -139,7 +122,7 @@ pub record Parts (x : ℕ) (xs : List ℕ) (j : ℕ) : Type 0 where
 
 falls_with : (x : ℕ) (xs : List ℕ) (j : ℕ) → Parts x xs j → Falls (set xs j x)
 falls_with x [] j p = let w = p.within in absurd (omega arith)
-falls_with x (y ∷ xs) zero p = (λ z h. below z (place_in z xs h), p.falls.1)
+falls_with x (y ∷ xs) zero p = (λ z h. below z (place_within xs z 0 h), p.falls.1)
   where
     below : (z : ℕ) → (k : ℕ) × (k < length xs) × (get_or xs k 0 ≡ z) → z ≤ x
     below z c = let l = p.rest (suc c.0) (omega arith) (omega arith) in omega arith
@@ -147,7 +130,7 @@ falls_with x (y ∷ xs) (suc j) p =
     (λ z h. below z (In-set z xs j x h), falls_with x xs j record { within = omega (arith, p.within); above = p.above; falls = p.falls.1; rest = λ k a b. p.rest (suc k) (omega arith) (omega arith) })
   where
     there : In (get_or xs j 0) xs
-    there = In-get_or xs j (omega (arith, p.within))
+    there = In-get_or xs j 0 (omega (arith, p.within))
 
     below : (z : ℕ) → In z xs ⊎ (z ≡ x) → z ≤ y
     below z (inl h) = p.falls.0 z h
@@ -186,7 +169,7 @@ at_front x xs j p = record {
           where
             from : (z ≡ x) ⊎ In z xs → get_or xs j 0 ≤ z
             from (inl e) = absurd (omega arith)
-            from (inr i) = let r = place_in z xs i in at_least z r.0 r.1 r.2 h
+            from (inr i) = let r = place_within xs z 0 i in at_least z r.0 r.1 r.2 h
 
         by : (get_or xs j 0 < z) ⊎ ((get_or xs j 0 ≡ z) ⊎ (z < get_or xs j 0)) → AtMost (get_or xs j 0 ∷ reverse (set xs j x)) (z ∷ zs)
         by (inl l) = inr (inl l)
@@ -268,7 +251,7 @@ next_is_not_last xs ys n last = by (AtMost-is_at_most ys xs (last ys n.permutes)
 
 climbs_from_steps : (xs : List ℕ) → ((i j : ℕ) → i ≤ j → j < length xs → get_or xs i 0 ≤ get_or xs j 0) → Climbs xs
 climbs_from_steps [] h = tt
-climbs_from_steps (x ∷ xs) h = (λ y i. at_least y (place_in y xs i), climbs_from_steps xs (λ i j le l. h (suc i) (suc j) (omega arith) (omega arith)))
+climbs_from_steps (x ∷ xs) h = (λ y i. at_least y (place_within xs y 0 i), climbs_from_steps xs (λ i j le l. h (suc i) (suc j) (omega arith) (omega arith)))
   where
     at_least : (y : ℕ) → (k : ℕ) × (k < length xs) × (get_or xs k 0 ≡ y) → x ≤ y
     at_least y r = let l = h 0 (suc r.0) (omega arith) (omega (arith, r.1)) in omega (arith, l, r.2)

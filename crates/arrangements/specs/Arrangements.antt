@@ -1,6 +1,7 @@
 -- The arrangements of a bag of nodes: the lists that have the same nodes, each as often. They stand in lexicographic order.
 use Rattle.std.specs.Prelude.{◌≡◌, ℕ, true, ◌↔◌, List, [], ◌∷◌}
 use Rattle.rdf_terms.specs.Lists.{In, Permutes, is_before, is_at_most}
+use Rattle.rdf_terms.specs.Arrangements.{AreStrictlyAscending}
 
 -- no arrangement of the bag stands before xs
 pub record IsFirst (bag xs : List ℕ) : Type 0 where
@@ -24,15 +25,10 @@ pub data GoesThrough : List ℕ → List (List ℕ) → Type 0 where
   at_last : {xs : List ℕ} → IsLast xs → GoesThrough xs (xs ∷ [])
   goes_on : {xs ys : List ℕ} {rest : List (List ℕ)} → IsNext xs ys → GoesThrough ys rest → GoesThrough xs (xs ∷ rest)
 
--- each list stands before all those after it, so none stands twice
-abbrev pub Ascends : List (List ℕ) → Type 0
-Ascends [] = Unit {0}
-Ascends (xs ∷ more) = ((ys : List ℕ) → In ys more → is_before xs ys ≡ true) × Ascends more
-
 -- these are the arrangements of the bag, each once and in order
 pub record AreAllArrangements (bag : List ℕ) (all : List (List ℕ)) : Type 0 where
   pub each : (xs : List ℕ) → In xs all ↔ Permutes bag xs
-  pub ascend : Ascends all
+  pub ascend : AreStrictlyAscending all
 
 -- from the first arrangement of a bag on, the steps up to the last come by all its arrangements
 abbrev pub GoesThroughAll : Type 0

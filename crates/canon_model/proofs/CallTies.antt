@@ -4,7 +4,6 @@ use Rattle.rdf_terms.proofs.Membership.{In-append, from_In-map}
 use Rattle.rdf_terms.proofs.Permutations.{In-Permutes, Permutes-sym}
 use Rattle.rdf_terms.specs.Dataset.{Dataset}
 use Rattle.rdf_terms.specs.Lists.{In, Permutes, Text, is_before}
-use Rattle.canon_model.specs.Arrangements.{arrangements}
 use Rattle.canon_model.specs.CountedRun.{Chosen, Counted, Outcome, Tie, choose, chosen_text, counted_call, counted_call_within, counted_groups, counted_permutation, counted_permutations, counted_recursion, is_skipped, issuer_or, path_or_none, skips, ties_of_chosen}
 use Rattle.canon_model.specs.Groups.{groups}
 use Rattle.canon_model.specs.Issuer.{IsValidCall, is_issued}
@@ -13,7 +12,6 @@ use Rattle.canon_model.specs.Outcome.{DataToHash, HashNDegreeQuads}
 use Rattle.canon_model.specs.Hashing.{Hashing}
 use Rattle.canon_model.specs.Ties.{AreTiedPaths, IsTie, MayBeBegun, MayBeExchanged}
 use Rattle.canon_model.specs.Walk.{PermutationPath, issuer_copy_after, path_of_identifiers, path_of_result, recursion_list}
-use Rattle.canon_model.proofs.Arrangements.{In-arrangements, from_In-arrangements}
 use Rattle.canon_model.proofs.CanonicalLists.{AreCanonical}
 use Rattle.canon_model.proofs.CountedGrows.{counted_call-grows, counted_permutations-grows}
 use Rattle.canon_model.proofs.CountedPaths.{Either, Kept, counted_permutations-kept, full_path, issuer_of, none_kept, path_of}
@@ -23,6 +21,8 @@ use Rattle.canon_model.proofs.Issuers.{In-from_is_issued, are_distinct_from_once
 use Rattle.canon_model.proofs.OutcomesGrow.{data_to_hash-push}
 use Rattle.canon_model.proofs.TiedLists.{permutations-exchanged}
 use Rattle.canon_model.proofs.Totality.{Fits, MentionsNodes, fits_counted_call, fits_counted_group, fits_recursion, fits_valid_call, group-counted, mentions_nodes, n_degree_within-counted, nodes_of_groups, permutation_path-counted}
+use Rattle.rdf_terms.specs.Arrangements.{arrangements}
+use Rattle.rdf_terms.proofs.Arrangements.{In-arrangements, from_In-arrangements}
 
 abbrev pub AreTies : Hashing → Dataset → List Tie → Type 0
 AreTies ρ D ts = (t : Tie) → In t ts → IsTie ρ D t

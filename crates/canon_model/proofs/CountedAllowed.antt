@@ -10,10 +10,11 @@ use Rattle.canon_model.specs.Laws.{CountedRunIsAllowed, TotalityOfDatasets}
 use Rattle.canon_model.specs.Outcome.{HashNDegreeQuads}
 use Rattle.canon_model.specs.Hashing.{Hashing}
 use Rattle.canon_model.proofs.CanonicalLists.{AreCanonical, results-canonical, unique_hashes-canonical, valid_start}
-use Rattle.canon_model.proofs.Maps.{map-map, map_identity}
+use Rattle.canon_model.proofs.Maps.{map_identity}
 use Rattle.canon_model.proofs.SortedResults.{sort_results-ascending, sort_results-permutes}
 use Rattle.canon_model.proofs.StartNodes.{unissued_node}
 use Rattle.canon_model.proofs.Totality.{counted_call_is_outcome, mentions_nodes}
+use Rattle.rdf_terms.proofs.MadeLists.{map-map}
 
 pub AreDistinct-results : (ρ : Hashing) (D : Dataset) (c xs : List ℕ) → AreDistinct xs → AreDistinct (map (result_of ρ D c) xs)
 AreDistinct-results ρ D c [] o = tt

@@ -3,7 +3,6 @@ use Rattle.std.proofs.Common.{Bool, List, None, Option, [], ap, arith, cond, fal
 use Rattle.rdf_terms.proofs.Permutations.{In-Permutes, Permutes-sym}
 use Rattle.rdf_terms.specs.Dataset.{Dataset}
 use Rattle.rdf_terms.specs.Lists.{In, Text}
-use Rattle.canon_model.specs.Arrangements.{arrangements}
 use Rattle.canon_model.specs.CountedRun.{Chosen, Counted, CountedCall, Outcome, after, choose, chosen_text, counted_call, counted_call_within, counted_groups, counted_permutation, counted_permutations, counted_recursion, followed_by, is_skipped, issuer_or, logged, nothing, one_unit, path_or_none, skips, ties_of_chosen}
 use Rattle.canon_model.specs.Groups.{groups}
 use Rattle.canon_model.specs.Issuer.{is_issued}
@@ -11,13 +10,14 @@ use Rattle.canon_model.specs.Laws.{DepthDoesNotMatter}
 use Rattle.canon_model.specs.Outcome.{ChosenPath, DataToHash, NDegreeWithin}
 use Rattle.canon_model.specs.Hashing.{Hashing}
 use Rattle.canon_model.specs.Walk.{CallRelation, PermutationPath, RecursionResults, issuer_copy_after, path_of_identifiers, path_of_result, recursion_list}
-use Rattle.canon_model.proofs.Arrangements.{from_In-arrangements}
 use Rattle.canon_model.proofs.CountedGrows.{counted_call-grows}
 use Rattle.canon_model.proofs.Coverage.{AllCover, Reaches, from_In-recursion_list, issuer_copy_after-issued, n_degree_within-covers, permutation_path-reaches}
 use Rattle.canon_model.proofs.Issuers.{is_issued-begins, is_issued-from_In}
 use Rattle.canon_model.proofs.OutcomesGrow.{AllGrow, chosen_path-grows, n_degree_within-grows}
 use Rattle.canon_model.proofs.Pigeonhole.{are_once-length}
 use Rattle.canon_model.proofs.Totality.{Fits, MentionsNodes, fits_after_call, fits_after_path, fits_counted_call, fits_counted_group, fits_recursion, fits_valid_call, mentions_nodes, n_degree_within-counted, nodes_of_groups}
+use Rattle.rdf_terms.specs.Arrangements.{arrangements}
+use Rattle.rdf_terms.proofs.Arrangements.{from_In-arrangements}
 
 module _ (ρ : Hashing) (D : Dataset) (c : List ℕ) (nodes : MentionsNodes D) where
   -- ---- the relation

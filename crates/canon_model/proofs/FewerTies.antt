@@ -4,12 +4,12 @@ use Rattle.std.proofs.Common.{length-append}
 use Rattle.rdf_terms.specs.Dataset.{Dataset}
 use Rattle.rdf_terms.specs.Lists.{Text, is_before}
 use Rattle.std.specs.Str.{bytes_eq}
-use Rattle.canon_model.specs.Arrangements.{arrangements}
 use Rattle.canon_model.specs.CountedRun.{Chosen, Counted, CountedCall, Outcome, Tie, Trace, choose, chosen_text, counted_call, counted_call_within, counted_groups, counted_permutation, counted_permutations, counted_recursion, followed_by, is_skipped, issuer_or, logged, nothing, one_unit, path_or_none, skips, ties_of_chosen}
 use Rattle.canon_model.specs.Groups.{groups}
 use Rattle.canon_model.specs.Hashing.{Hashing}
 use Rattle.canon_model.specs.Recursion.{FewerTiesThanUnits}
 use Rattle.canon_model.specs.Walk.{issuer_copy_after, path_of_identifiers, path_of_result, recursion_list}
+use Rattle.rdf_terms.specs.Arrangements.{arrangements}
 
 abbrev NoMore : Trace → Type 0
 NoMore t = length t.ties ≤ t.units

@@ -9,7 +9,6 @@ use Rattle.rdf_terms.specs.declared.term.Term.{Term}
 use Rattle.rdf_terms.specs.declared.term.Term.TheVariants.{Blank, Iri, Literal}
 use Rattle.std.specs.Str.{bytes_eq}
 use Rattle.canon_model.specs.Allowed.{HashPathResult, first_degree_hashes, has_no_canonical, issue_results, issued_for_unique_hashes, nodes_with_hash, single, unissued_nodes}
-use Rattle.canon_model.specs.Arrangements.{arrangements}
 use Rattle.canon_model.specs.CountedRun.{Counted, CountedCall, Outcome, Trace, after, counted_call, counted_call_within, counted_groups, counted_hashes, counted_permutations, counted_results, counted_run, followed_by, issuer_or, logged, one_unit, path_or_none, result_of, sort_results, ties_of_chosen, ties_of_results, trace_of_starts}
 use Rattle.canon_model.specs.FirstDegree.{hash_first_degree_quads}
 use Rattle.canon_model.specs.Groups.{blank_node_list, each_text_once, groups, related_entries}
@@ -19,6 +18,7 @@ use Rattle.canon_model.specs.QuadOrder.{CountedRunOfQuads, HaveSameQuads}
 use Rattle.canon_model.proofs.Relabel.{hash_first_degree_quads-relabel, related_entries-relabel, relabel_entry}
 use Rattle.canon_model.proofs.RelabelGroups.{blank_node_list-relabel, related_hashes-relabel}
 use Rattle.canon_model.proofs.StrictlyAscending.{arrangements_are_all}
+use Rattle.rdf_terms.specs.Arrangements.{arrangements}
 
 -- ---- the identity as a relabelling
 

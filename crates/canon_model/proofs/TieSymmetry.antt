@@ -17,11 +17,13 @@ use Rattle.canon_model.proofs.ExchangeSymmetry.{append_split, place_of-outside}
 use Rattle.canon_model.proofs.Gluing.{gluing}
 use Rattle.canon_model.proofs.Issuers.{In-from_is_issued, are_once-apart, are_once_from_distinct, is_issued-from_In, is_issued-from_not_In, map_fixed, not_In-from_is_issued}
 use Rattle.canon_model.proofs.LocalSymmetry.{are_quads}
-use Rattle.canon_model.proofs.Maps.{length-map, map-append, map-map, map_identity}
+use Rattle.canon_model.proofs.Maps.{map_identity}
 use Rattle.canon_model.proofs.OutcomeComponents.{component_of_outcome}
 use Rattle.canon_model.proofs.Symmetries.{Linked, joined-linked}
 use Rattle.canon_model.proofs.TiedLists.{tied_may_be_exchanged}
 use Rattle.canon_model.proofs.Totality.{mentions_nodes}
+use Rattle.std.proofs.lemmas.List.{length-map, map-append}
+use Rattle.rdf_terms.proofs.MadeLists.{map-map}
 
 -- ---- the exchange of a list for its image
 
@@ -121,7 +123,7 @@ module _ (D : Dataset) (valid : IsValid D) (c i l m : List ℕ) (e : MayBeExchan
 
   pub carried-joined : IsJoined D c l m
   carried-joined = record {
-    as_long = sym (length-map to l) ∙ ap length (sym s.right_is);
+    as_long = sym (length-map l to) ∙ ap length (sym s.right_is);
     symmetry = glued.0;
     is_exchange = is_exchange;
     fixes_canonical = λ x h. exchange-elsewhere l m x (is_issued-from_not_In x l (λ a. e.left_apart x a h)) (is_issued-from_not_In x m (λ a. e.right_apart x a h));

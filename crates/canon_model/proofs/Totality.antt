@@ -7,7 +7,6 @@ use Rattle.rdf_terms.specs.Lists.{In, Text}
 use Rattle.rdf_terms.specs.Terms.{IsValidStatement, IsValidTerm, Statement}
 use Rattle.rdf_terms.specs.declared.term.Term.{Term}
 use Rattle.rdf_terms.specs.declared.term.Term.TheVariants.{Blank, Iri, Literal}
-use Rattle.canon_model.specs.Arrangements.{arrangements}
 use Rattle.canon_model.specs.CountedRun.{counted_call, counted_call_within, counted_groups, counted_permutations, issuer_or, path_or_none}
 use Rattle.canon_model.specs.Coverage.{Reached, ShareQuad, begin, onward}
 use Rattle.canon_model.specs.Groups.{groups}
@@ -22,6 +21,8 @@ use Rattle.canon_model.proofs.Coverage.{AllCover, CallCovers, Reaches, from_In-r
 use Rattle.canon_model.proofs.Issuers.{AreOnce, Grows, In-from_is_issued, are_once_from_distinct, begins_refl, is_issued-begins, is_issued-from_In, is_issued-from_not_In, issuer_copy_after-grows, not_In-from_is_issued}
 use Rattle.canon_model.proofs.Neighbours.{from_In-blank_node_list}
 use Rattle.canon_model.proofs.Pigeonhole.{are_once-length, begins-length, begins-length_new}
+use Rattle.rdf_terms.specs.Arrangements.{arrangements}
+use Rattle.rdf_terms.proofs.MadeLists.{each-from_All}
 
 -- every blank node of a quad is a node of the dataset
 abbrev pub MentionsNodes : Dataset → Type 0
@@ -165,11 +166,6 @@ module _ (ρ : Hashing) (D : Dataset) (c : List ℕ) (nodes : MentionsNodes D) w
 
 -- ---- the laws
 
-pub all_in : {A : Type 0} (P : A → Type 0) (xs : List A) (x : A) → In x xs → All P xs → P x
-all_in P [] x h a = absurd h
-all_in P (y ∷ xs) x (inl e) a = subst P (sym e) (a 0 y (omega arith))
-all_in P (y ∷ xs) x (inr h) a = all_in P xs x h (λ k d l. a (suc k) d (omega arith))
-
 term_below : (nodes : ℕ) (t : Term) → IsValidTerm nodes t → (x : ℕ) → is_node x t ≡ true → x < nodes
 term_below nodes (Iri t) v x h = absurd (true≢false (sym h))
 term_below nodes (Blank m) v x h = subst (λ w. w < nodes) (eqb-true m x h) v
@@ -179,7 +175,7 @@ pub mentions_nodes : (D : Dataset) → IsValid D → MentionsNodes D
 mentions_nodes D valid q h x m = by (or_cases (is_node x q.subject) (is_node x q.object || is_named_by x q.graph_name) m)
   where
     v : IsValidStatement D.nodes q
-    v = all_in (IsValidStatement D.nodes) D.statements q h valid.valid
+    v = each-from_All (IsValidStatement D.nodes) D.statements q valid.valid h
 
     named : (t : Option Term) → IfSome t (IsValidTerm D.nodes) → is_named_by x t ≡ true → x < D.nodes
     named None w e = absurd (true≢false (sym e))

@@ -25,13 +25,14 @@ use Rattle.canon_model.proofs.IssueEach.{false_of, issue_each-new}
 use Rattle.canon_model.proofs.IssuedLists.{issued_issue_results_from}
 use Rattle.canon_model.proofs.Issuers.{AreOnce, In-from_is_issued, Keeps, are_distinct_from_once, begins_refl, begins_trans, is_issued-begins, is_issued-from_In, is_issued-from_not_In, map_fixed}
 use Rattle.canon_model.proofs.LocalSymmetry.{are_quads, in_split}
-use Rattle.canon_model.proofs.Maps.{length-map, map-append, map_identity}
+use Rattle.canon_model.proofs.Maps.{map_identity}
 use Rattle.canon_model.proofs.OutcomeComponents.{component_of_outcome}
 use Rattle.canon_model.proofs.OutcomesGrow.{n_degree_within-grows}
 use Rattle.canon_model.proofs.SortedResults.{sort_results-ascending, sort_results-permutes}
 use Rattle.canon_model.proofs.StartNodes.{In-unissued_nodes}
 use Rattle.canon_model.proofs.TieSymmetry.{joined_where_symmetric}
 use Rattle.canon_model.proofs.Totality.{mentions_nodes}
+use Rattle.std.proofs.lemmas.List.{length-map, map-append}
 
 -- ---- what is issued begins with what was there
 
@@ -47,7 +48,7 @@ issue_results-begins : (c : List ℕ) (rs : List HashPathResult) → BeginsWith 
 issue_results-begins c [] = begins_refl c
 issue_results-begins c (r ∷ rs) = begins_trans c (issue_each c r.issuer) (issue_results (issue_each c r.issuer) rs) (issue_each-begins c r.issuer) (issue_results-begins (issue_each c r.issuer) rs)
 
-issue_results-append : (c : List ℕ) (rs qs : List HashPathResult) → issue_results c (rs ++ qs) ≡ issue_results (issue_results c rs) qs
+pub issue_results-append : (c : List ℕ) (rs qs : List HashPathResult) → issue_results c (rs ++ qs) ≡ issue_results (issue_results c rs) qs
 issue_results-append c [] qs = refl
 issue_results-append c (r ∷ rs) qs = issue_results-append (issue_each c r.issuer) rs qs
 
@@ -312,7 +313,7 @@ module _ (ρ : Hashing) (D : Dataset) (valid : IsValid D) (c l m : List ℕ) (t 
     to = σ.relabelling.to
 
     parts : (front ≡ map σ.relabelling.to front) × (m ++ vs ≡ map σ.relabelling.to l ++ map σ.relabelling.to us)
-    parts = append_split front (m ++ vs) (map to front) (map to l ++ map to us) (sym (length-map to front))
+    parts = append_split front (m ++ vs) (map to front) (map to l ++ map to us) (sym (length-map front to))
         (sym (append_assoc front m vs) ∙ e ∙ ap (map to) (append_assoc front l us) ∙ map-append to front (l ++ us) ∙ ap (λ w. map to front ++ w) (map-append to l us))
 
     fixes : Keeps σ.relabelling.to c

@@ -18,12 +18,13 @@ use Rattle.canon_model.proofs.Coverage.{hash_n_degree_quads-covers}
 use Rattle.canon_model.proofs.ExchangeSymmetry.{append_split, map_same_in}
 use Rattle.canon_model.proofs.Issuers.{In-from_is_issued, are_once_from_distinct, is_issued-from_In}
 use Rattle.canon_model.proofs.LocalSymmetry.{in_split}
-use Rattle.canon_model.proofs.Maps.{length-map, map-append, map_identity}
+use Rattle.canon_model.proofs.Maps.{map_identity}
 use Rattle.canon_model.proofs.OutcomesGrow.{data_to_hash-grows}
 use Rattle.canon_model.proofs.Recursion.{outcomes_of_outcomes}
 use Rattle.canon_model.proofs.TieSymmetry.{joined_where_symmetric}
 use Rattle.canon_model.proofs.TiedLists.{covered_alike, fits_data_to_hash, fits_issuer, outcomes_grow, tied_may_be_exchanged}
 use Rattle.canon_model.proofs.Totality.{Fits, data_to_hash-counted, fits_valid_call, mentions_nodes, nodes_of_groups}
+use Rattle.std.proofs.lemmas.List.{length-map, map-append}
 
 -- ---- lists with the same nodes are as long
 
@@ -120,10 +121,10 @@ module _ (ρ : Hashing) (D : Dataset) (valid : IsValid D) (c i l m : List ℕ) (
     to = σ.relabelling.to
 
     right_is : m ≡ map σ.relabelling.to l
-    right_is = (append_split m vs (map to l) (map to us) (sym as_long ∙ sym (length-map to l)) (e ∙ map-append to l us)).0
+    right_is = (append_split m vs (map to l) (map to us) (sym as_long ∙ sym (length-map l to)) (e ∙ map-append to l us)).0
 
     front_is : i ≡ map σ.relabelling.to i
-    front_is = (append_split i exchanged.right_tail (map to i) (map to exchanged.left_tail) (sym (length-map to i)) (sym exchanged.right_is ∙ right_is ∙ ap (map to) exchanged.left_is ∙ map-append to i exchanged.left_tail)).0
+    front_is = (append_split i exchanged.right_tail (map to i) (map to exchanged.left_tail) (sym (length-map i to)) (sym exchanged.right_is ∙ right_is ∙ ap (map to) exchanged.left_is ∙ map-append to i exchanged.left_tail)).0
 
     joined : IsJoined D c l m
     joined = (joined_where_symmetric ρ D valid c i l m (inr t)).1 (record {

@@ -9,7 +9,6 @@ pub mod Groups
 pub mod Walk
 pub mod Outcome
 pub mod Allowed
-pub mod Arrangements
 pub mod CountedRun
 pub mod Coverage
 pub mod Ties

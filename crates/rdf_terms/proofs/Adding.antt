@@ -13,13 +13,10 @@ use Rattle.rdf_terms.specs.declared.term.Quad.{Quad}
 use Rattle.rdf_terms.specs.declared.term.Label.{Label}
 use Rattle.rdf_terms.proofs.Membership.{In-map, from_In-map, In-at, In-append_left, In-append_right, AreDistinct-adds, one_place}
 use Rattle.rdf_terms.proofs.Growing.{All-IsInRange-extends, map-statement-extends}
+use Rattle.std.proofs.lemmas.Bool.{or_left, or_right}
+use Rattle.rdf_terms.proofs.MadeLists.{each-from_All}
 
 -- ---- equal statements are of one quad
-
-All-in : {A : Type 0} (P : A → Type 0) (xs : List A) (x : A) → All P xs → In x xs → P x
-All-in P [] x h there = absurd there
-All-in P (y ∷ ys) x h (inl e) = subst P (sym e) (All-head P y ys h)
-All-in P (y ∷ ys) x h (inr there) = All-in P ys x (All-tail P y ys h) there
 
 module _ (ts : List Term) (distinct : AreDistinct ts) where
   number_is : (m n : ℕ) → m < length ts → n < length ts → term_at ts m ≡ term_at ts n → m ≡ n
@@ -42,18 +39,10 @@ module _ (ts : List Term) (distinct : AreDistinct ts) where
   from_statements : (qs : List Quad) (q : Quad) → All (IsInRange ts) qs → IsInRange ts q → In (statement ts q) (map (statement ts) qs) → In q qs
   from_statements qs q all one there =
       let p = from_In-map (statement ts) qs (statement ts q) there in
-      let same : q ≡ p.0 = statement_injective q p.0 one (All-in (IsInRange ts) qs p.0 all p.1) p.2 in
+      let same : q ≡ p.0 = statement_injective q p.0 one (each-from_All (IsInRange ts) qs p.0 all p.1) p.2 in
       subst (λ r. In r qs) (sym same) p.1
 
 -- ---- the blank nodes of a statement are those that it mentions
-
-or_left : (a b : Bool) → a ≡ true → (a || b) ≡ true
-or_left true b e = refl
-or_left false b e = absurd (true≢false (sym e))
-
-or_right : (a b : Bool) → b ≡ true → (a || b) ≡ true
-or_right true b e = refl
-or_right false b e = e
 
 itself : (n : ℕ) → eqb n n ≡ true
 itself n = grind arith
@@ -97,7 +86,7 @@ module _ (ts us : List Term) (old new : List Quad) (labels : List Label) (q : Qu
     known : In st (statements before) → us ≡ ts
     known h =
         let p = from_In-map (statement ts) old st h in
-        let r = All-in (IsInRange ts) old p.0 d.in_range p.1 in
+        let r = each-from_All (IsInRange ts) old p.0 d.in_range p.1 in
         n.known (is_there p.0 r p.2)
       where
         at : (k : ℕ) → k < length ts → In (term_at ts k) ts

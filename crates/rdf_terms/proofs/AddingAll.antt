@@ -11,6 +11,7 @@ use Rattle.rdf_terms.specs.declared.term.Label.{Label}
 use Rattle.rdf_terms.specs.declared.term_ref.StatementRef.{StatementRef}
 use Rattle.rdf_terms.specs.References.{statement_of}
 use Rattle.rdf_terms.proofs.Adding.{Added-adds}
+use Rattle.rdf_terms.proofs.Membership.{length-adds}
 
 pub AddsAll-push : {A : Type 0} (old xs mid : List A) (x : A) (new : List A) → AddsAll old xs mid → Adds mid x new → AddsAll old (xs ++ x ∷ []) new
 AddsAll-push old [] mid x new h a = (new, subst (λ o. Adds o x new) h a, refl)
@@ -22,10 +23,6 @@ NumbersAll-push old [] [] mid st q new h n e d = (new, subst (λ o. NumbersNext 
 NumbersAll-push old [] (p ∷ qs) mid st q new h n e d = absurd h
 NumbersAll-push old (s ∷ sts) [] mid st q new h n e d = absurd h
 NumbersAll-push old (s ∷ sts) (p ∷ qs) mid st q new h n e d = (h.0, h.1, NumbersAll-push h.0 sts qs mid st q new h.2 n e d)
-
-one_longer : {A : Type 0} (old : List A) (x : A) (new : List A) → Adds old x new → length new ≤ length old + 1
-one_longer old x new (inl p) = omega (arith, ap length p.0)
-one_longer old x new (inr p) = omega (arith, ap length p.0, length-append old (x ∷ []))
 
 module _ (labels : List Label) where
   abbrev draft_of : List Term → List Quad → Document
@@ -43,7 +40,7 @@ module _ (labels : List Label) where
   added_all ts us old new [] (q ∷ qs) d n a v room = absurd n
   added_all ts us old new (st ∷ sts) [] d n a v room = absurd n
   added_all ts us old new (st ∷ sts) (q ∷ qs) d n a v room =
-      let longer = one_longer old q a.0 a.1 in
+      let longer = length-adds old q a.0 a.1 in
       let one = Added-adds ts n.0 old a.0 labels q st d n.1.extends n.1.distinct n.1.numbers (All-head (IsValidStatement (length labels)) st sts v) (omega (arith, room)) a.1 in
       let rest = added_all n.0 us a.0 new sts qs one.draft n.2 a.2 (All-tail (IsValidStatement (length labels)) st sts v) (omega (arith, room, longer)) in
       record { draft = rest.draft; adds = (statements (draft_of n.0 a.0), one.adds, rest.adds) }

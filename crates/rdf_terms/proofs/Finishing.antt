@@ -16,37 +16,8 @@ use Rattle.rdf_terms.specs.declared.term.Label.{Label}
 use Rattle.rdf_terms.specs.declared.term.Label.TheVariants.{Anonymous}
 use Rattle.rdf_terms.proofs.Membership.{In-map, from_In-map, one_place}
 use Rattle.rdf_terms.proofs.Adding.{mentions-term}
-use Rattle.rdf_terms.proofs.Ranks.{In-filter, AreDistinct-filter, In-numbers_below, AreDistinct-numbers_below, length-numbers_below, get_or-numbers_below, rank-lt, rank-bound, rank-injective, rank-onto, rank-all, filter-numbers_below_all}
-
--- ---- lists
-
-pub All-from_each : {A : Type 0} (P : A → Type 0) (xs : List A) → ((x : A) → In x xs → P x) → All P xs
-All-from_each P [] h = All-nil P
-All-from_each P (x ∷ xs) h = All-cons P x xs (h x (inl refl)) (All-from_each P xs (λ y i. h y (inr i)))
-
-pub each-from_All : {A : Type 0} (P : A → Type 0) (xs : List A) (x : A) → All P xs → In x xs → P x
-each-from_All P [] x h there = absurd there
-each-from_All P (y ∷ ys) x h (inl e) = subst P (sym e) (All-head P y ys h)
-each-from_All P (y ∷ ys) x h (inr there) = each-from_All P ys x (All-tail P y ys h) there
-
-pub AreDistinct-map : {A B : Type 0} (f : A → B) (xs : List A) → ((x y : A) → In x xs → In y xs → f x ≡ f y → x ≡ y) → AreDistinct xs → AreDistinct (map f xs)
-AreDistinct-map f [] h d = tt
-AreDistinct-map f (x ∷ xs) h d = (apart, AreDistinct-map f xs (λ a b i j e. h a b (inr i) (inr j) e) d.1)
-  where
-    apart : ¬ (In (f x) (map f xs))
-    apart there = let p = from_In-map f xs (f x) there in d.0 (subst (λ y. In y xs) (sym (h x p.0 (inl refl) (inr p.1) p.2)) p.1)
-
-pub map-agree : {A B : Type 0} (f g : A → B) (xs : List A) → ((x : A) → In x xs → f x ≡ g x) → map f xs ≡ map g xs
-map-agree f g [] h = refl
-map-agree f g (x ∷ xs) h = λ i. h x (inl refl) i ∷ map-agree f g xs (λ y j. h y (inr j)) i
-
-pub map-map : {A B C : Type 0} (f : B → C) (g : A → B) (xs : List A) → map f (map g xs) ≡ map (λ x. f (g x)) xs
-map-map f g [] = refl
-map-map f g (x ∷ xs) = ap (λ w. f (g x) ∷ w) (map-map f g xs)
-
-pub map-same : {A : Type 0} (f : A → A) (xs : List A) → ((x : A) → In x xs → f x ≡ x) → map f xs ≡ xs
-map-same f [] h = refl
-map-same f (x ∷ xs) h = λ i. h x (inl refl) i ∷ map-same f xs (λ y j. h y (inr j)) i
+use Rattle.rdf_terms.proofs.Ranks.{from_In-numbers_below, AreDistinct-numbers_below, length-numbers_below, get_or-numbers_below, rank-lt, rank-bound, rank-injective, rank-onto, rank-all, filter-numbers_below_all}
+use Rattle.rdf_terms.proofs.MadeLists.{from_In-filter, AreDistinct-filter, All-from_each, each-from_All, AreDistinct-map, map-agree, map-map, map-same}
 
 -- ---- nodes that a statement mentions
 
@@ -313,7 +284,7 @@ module _ (ts : List Term) (qs : List Quad) (labels : List Label) where
     label_injective m n l k e = one_place labels m n (label_at labels m) d.distinct_labels (slice_get-get_or labels m (Anonymous 0) l) (slice_get-get_or labels n (Anonymous 0) k ∙ ap Some (sym e))
 
     used_is_low : (n : ℕ) → In n (used_below (statements before) (length labels)) → n < length labels
-    used_is_low n i = In-numbers_below (length labels) n (In-filter (is_mentioned (statements before)) (numbers_below (length labels)) n i).0
+    used_is_low n i = from_In-numbers_below (length labels) n (from_In-filter (is_mentioned (statements before)) n (numbers_below (length labels)) i).0
 
     distinct_labels_after : AreDistinct finished_labels
     distinct_labels_after = AreDistinct-map (label_at labels) (used_below (statements before) (length labels))

@@ -15,7 +15,8 @@ use Rattle.rdf_terms.specs.declared.term.Label.{Label}
 use Rattle.rdf_terms.proofs.Membership.{from_In-map, In-at}
 use Rattle.rdf_terms.proofs.Ranks.{rank-injective, filter-numbers_below_agree, get_or-numbers_below, length-numbers_below}
 use Rattle.rdf_terms.proofs.Keeping.{marked_of-numbers}
-use Rattle.rdf_terms.proofs.Finishing.{each-from_All, map-agree, AreDistinct-map, IsUsed-mentioned, mentioned-In, mentioned_low, one_of, finished_terms, finished_labels, IsDocument-finished, Finishes-finished, finished-all}
+use Rattle.rdf_terms.proofs.Finishing.{IsUsed-mentioned, mentioned-In, mentioned_low, one_of, finished_terms, finished_labels, IsDocument-finished, Finishes-finished, finished-all}
+use Rattle.rdf_terms.proofs.MadeLists.{each-from_All, map-agree, AreDistinct-map}
 
 -- ---- a node that a quad's statement mentions stands in the table
 

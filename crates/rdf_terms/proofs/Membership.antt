@@ -1,10 +1,12 @@
 -- Membership and distinct lists, and the tests by which a table of distinct keys finds one.
-use Rattle.std.proofs.Common.{◌≡◌, ℕ, zero, suc, ◌⊎◌, Bool, true, false, ◌||◌, List, [], ◌∷◌, ◌++◌, Some, slice_get, take, map, inl, inr, refl, sym, ap, ◌∙◌, true≢false, position, if◌then◌else◌, get_or}
+use Rattle.std.proofs.Common.{◌≡◌, ℕ, zero, suc, ◌⊎◌, Bool, true, false, ◌||◌, List, [], ◌∷◌, ◌++◌, Some, slice_get, take, map, inl, inr, refl, sym, ap, ◌∙◌, true≢false, position, if◌then◌else◌, get_or, length, length-append, arith, ◌+◌, ◌≤◌}
 use Rattle.std.specs.List.{list_any, IsDistinct, AllByRecursion}
 use Rattle.std.proofs.lemmas.List.Quantifiers.{position-Some}
 use Rattle.std.proofs.lemmas.Option.{slice_get-get_or}
 use Rattle.rdf_terms.specs.Lists.{In, AreDistinct}
 use Rattle.rdf_terms.specs.Document.{Adds, Extends}
+use Rattle.std.proofs.lemmas.List.{append-nil}
+use Rattle.std.proofs.lemmas.Bool.{or_right}
 
 module _ {A : Type 0} where
   pub In-at : (xs : List A) (n : ℕ) (x : A) → slice_get xs n ≡ Some x → In x xs
@@ -61,12 +63,12 @@ module _ {A : Type 0} where
   one_place (y ∷ ys) (suc m) (suc n) x d p q = ap suc (one_place ys m n x d.1 p q)
 
   pub Extends-adds : (old : List A) (x : A) (new : List A) → Adds old x new → Extends old new
-  Extends-adds old x new (inl p) = ([], p.0 ∙ append_nil old)
-    where
-      append_nil : (l : List A) → l ≡ l ++ []
-      append_nil [] = refl
-      append_nil (a ∷ l) = ap (λ w. a ∷ w) (append_nil l)
+  Extends-adds old x new (inl p) = ([], p.0 ∙ sym (append-nil old))
   Extends-adds old x new (inr p) = (x ∷ [], p.0)
+
+  pub length-adds : (old : List A) (x : A) (new : List A) → Adds old x new → length new ≤ length old + 1
+  length-adds old x new (inl p) = omega (arith, ap length p.0)
+  length-adds old x new (inr p) = omega (arith, ap length p.0, length-append old (x ∷ []))
 
   pub In-extends : (old new : List A) (x : A) → Extends old new → In x old → In x new
   In-extends old new x e h = rw e.1 (In-append_left old e.0 x h)
@@ -95,14 +97,10 @@ module _ {K : Type 0} (eq : K → K → Bool) (tells : TellsEqual eq) where
   present k [] h = absurd (true≢false (sym h))
   present k (x ∷ xs) h = first_or_later k x xs (eq k x) refl h (present k xs)
 
-  or_true : (b c : Bool) → c ≡ true → (b || c) ≡ true
-  or_true true c e = refl
-  or_true false c e = e
-
   passes : (k : K) (ks : List K) → In k ks → list_any (eq k) ks ≡ true
   passes k [] h = absurd h
   passes k (x ∷ xs) (inl e) = let is : eq k x ≡ true = rw (← e) (tells.itself k) in rw is refl
-  passes k (x ∷ xs) (inr h) = or_true (eq k x) (list_any (eq k) xs) (passes k xs h)
+  passes k (x ∷ xs) (inr h) = or_right (eq k x) (list_any (eq k) xs) (passes k xs h)
 
   pub absent : (k : K) (ks : List K) → list_any (eq k) ks ≡ false → ¬ (In k ks)
   absent k ks h there = true≢false (sym (passes k ks there) ∙ h)

@@ -2,16 +2,13 @@
 use Rattle.std.proofs.Common.{◌≡◌, ◌<◌, List, [], ◌∷◌, ◌++◌, length, inl, inr, sym, ap, subst, ◌∙◌, arith, append_assoc, append-nil, length-append}
 use Rattle.rdf_terms.specs.Lists.{In, AreDistinct}
 use Rattle.rdf_terms.specs.Document.{Adds}
+use Rattle.rdf_terms.proofs.Membership.{In-append_right}
 
 module _ {A : Type 0} where
   -- an element behind the front of a distinct list is not in the front
   pub absent_before : (front rest : List A) (x : A) → AreDistinct (front ++ x ∷ rest) → ¬ (In x front)
   absent_before [] rest x d h = h
-  absent_before (y ∷ ys) rest x d (inl e) = d.0 (behind ys (inl (sym e)))
-    where
-      behind : (zs : List A) → In y (x ∷ rest) → In y (zs ++ x ∷ rest)
-      behind [] h = h
-      behind (z ∷ zs) h = inr (behind zs h)
+  absent_before (y ∷ ys) rest x d (inl e) = d.0 (In-append_right ys (x ∷ rest) y (inl (sym e)))
   absent_before (y ∷ ys) rest x d (inr h) = absent_before ys rest x d.1 h
 
   module _ (all front left rest new : List A) (x : A) where

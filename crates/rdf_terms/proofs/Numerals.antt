@@ -15,6 +15,7 @@ use Rattle.rdf_terms.specs.Numeral.{next_digits, digits_from_last, turned, numer
 use Rattle.rdf_terms.specs.CanonicalForm.{identifier, prefix_text}
 use Rattle.rdf_terms.specs.declared.term.Prefix.{Prefix}
 use Rattle.rdf_terms.proofs.Membership.{In-append}
+use Rattle.rdf_terms.proofs.MadeLists.{All-from_each}
 
 -- ---- the last digit, and those before it
 
@@ -116,13 +117,8 @@ In-numeral n b = numeral-by_steps (λ m ds. In b ds → IsDigit b) one more n
     more : (m : ℕ) (ds : Text) → 10 ≤ m → (In b ds → IsDigit b) → In b (ds ++ (48 + m % 10) ∷ []) → IsDigit b
     more m ds h before there = elim (In-append ds ((48 + m % 10) ∷ []) b there) [ inl l ↦ before l | inr r ↦ one (m % 10) (omega arith) r ]
 
-All-from_In : (P : ℕ → Type 0) (bs : Text) → ((b : ℕ) → In b bs → P b) → All P bs
-All-from_In P [] h k d lt = absurd (omega arith)
-All-from_In P (b ∷ bs) h zero d lt = h b (inl refl)
-All-from_In P (b ∷ bs) h (suc k) d lt = All-from_In P bs (λ c there. h c (inr there)) k d (omega arith)
-
 pub All-numeral : (n : ℕ) → All IsDigit (numeral n)
-All-numeral n = All-from_In IsDigit (numeral n) (In-numeral n)
+All-numeral n = All-from_each IsDigit (numeral n) (In-numeral n)
 
 IsAscii-from_digits : (bs : Text) → ((b : ℕ) → In b bs → IsDigit b) → IsAscii bs
 IsAscii-from_digits [] h i = omega arith

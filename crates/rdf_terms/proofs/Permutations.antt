@@ -1,5 +1,5 @@
 -- Laws of `Permutes`, and the way to it from what a sort of the library ensures.
-use Rattle.std.proofs.Common.{◌≡◌, ℕ, zero, suc, ◌<◌, Bool, true, false, List, [], ◌∷◌, ◌++◌, map, filter, length, get_or, inl, inr, refl, sym, ap, ◌∙◌, subst, append_assoc, arith, if◌then◌else◌}
+use Rattle.std.proofs.Common.{◌≡◌, ℕ, zero, suc, ◌<◌, Bool, true, false, List, [], ◌∷◌, ◌++◌, map, filter, length, get_or, inl, inr, refl, sym, ap, ◌∙◌, subst, append_assoc, arith, if◌then◌else◌, append-nil}
 use Rattle.std.proofs.Math.ListN.{set}
 use Rattle.std.specs.List.{flat_map, swap}
 use Rattle.std.specs.List.Sorted.{IsPermutation}
@@ -47,12 +47,8 @@ module _ {A : Type 0} where
   Permutes-middle x [] ys = Permutes-refl (x ∷ ys)
   Permutes-middle x (z ∷ xs) ys = permutes_trans permutes_swap (permutes_cons (Permutes-middle x xs ys))
 
-  append_nothing : (xs : List A) → xs ≡ xs ++ []
-  append_nothing [] = refl
-  append_nothing (x ∷ xs) = ap (λ w. x ∷ w) (append_nothing xs)
-
   pub Permutes-append_comm : (xs ys : List A) → Permutes (xs ++ ys) (ys ++ xs)
-  Permutes-append_comm [] ys = Permutes-from_equal (append_nothing ys)
+  Permutes-append_comm [] ys = Permutes-from_equal (sym (append-nil ys))
   Permutes-append_comm (x ∷ xs) ys = permutes_trans (permutes_cons (Permutes-append_comm xs ys)) (Permutes-middle x ys xs)
 
   -- ---- elements

@@ -1,48 +1,33 @@
 -- How many of the first numbers pass a test.
 use Rattle.std.proofs.Common.{◌≡◌, ℕ, zero, suc, ◌+◌, ◌<◌, ◌≤◌, ◌⊎◌, Bool, true, false, List, [], ◌∷◌, ◌++◌, length, map, filter, inl, inr, refl, sym, ap, ◌∙◌, arith, length-append, if◌then◌else◌, get_or}
-use Rattle.std.proofs.lemmas.List.{map-append, get_or_append_left, get_or_at}
+use Rattle.std.proofs.lemmas.List.{map-append, get_or_append_left, get_or_at, append-nil}
 use Rattle.rdf_terms.specs.Lists.{In, AreDistinct, numbers_below}
-use Rattle.rdf_terms.proofs.Membership.{In-append, AreDistinct-push}
-
-pub filter-append : {A : Type 0} (p : A → Bool) (xs ys : List A) → filter p (xs ++ ys) ≡ filter p xs ++ filter p ys
-filter-append p [] ys = refl
-filter-append p (x ∷ xs) ys = by (p x) (filter-append p xs ys)
-  where
-    by : (b : Bool) → filter p (xs ++ ys) ≡ filter p xs ++ filter p ys → (if b then x ∷ filter p (xs ++ ys) else filter p (xs ++ ys)) ≡ (if b then x ∷ filter p xs else filter p xs) ++ filter p ys
-    by true e = ap (λ l. x ∷ l) e
-    by false e = e
-
-pub In-filter : {A : Type 0} (p : A → Bool) (xs : List A) (x : A) → In x (filter p xs) → In x xs × (p x ≡ true)
-In-filter p [] x h = absurd h
-In-filter p (y ∷ ys) x h = by (p y) refl h (In-filter p ys x)
-  where
-    by : (b : Bool) → p y ≡ b → In x (if b then y ∷ filter p ys else filter p ys) → (In x (filter p ys) → In x ys × (p x ≡ true)) → In x (y ∷ ys) × (p x ≡ true)
-    by true e (inl s) rest = (inl s, ap p s ∙ e)
-    by true e (inr h) rest = let r = rest h in (inr r.0, r.1)
-    by false e h rest = let r = rest h in (inr r.0, r.1)
-
-pub AreDistinct-filter : {A : Type 0} (p : A → Bool) (xs : List A) → AreDistinct xs → AreDistinct (filter p xs)
-AreDistinct-filter p [] d = tt
-AreDistinct-filter p (y ∷ ys) d = by (p y) (AreDistinct-filter p ys d.1)
-  where
-    by : (b : Bool) → AreDistinct (filter p ys) → AreDistinct (if b then y ∷ filter p ys else filter p ys)
-    by true rest = (λ h. d.0 (In-filter p ys y h).0, rest)
-    by false rest = rest
+use Rattle.rdf_terms.proofs.Membership.{In-append, AreDistinct-push, In-append_left, In-append_right}
+use Rattle.std.proofs.lemmas.Bool.{cases_eq}
+use Rattle.std.proofs.lemmas.List.Elements.{filter-append}
 
 -- ---- the numbers below n
 
-pub In-numbers_below : (n k : ℕ) → In k (numbers_below n) → k < n
-In-numbers_below zero k h = absurd h
-In-numbers_below (suc n) k h = by (In-append (numbers_below n) (n ∷ []) k h) (In-numbers_below n k)
+pub from_In-numbers_below : (n k : ℕ) → In k (numbers_below n) → k < n
+from_In-numbers_below zero k h = absurd h
+from_In-numbers_below (suc n) k h = by (In-append (numbers_below n) (n ∷ []) k h) (from_In-numbers_below n k)
   where
     by : In k (numbers_below n) ⊎ In k (n ∷ []) → (In k (numbers_below n) → k < n) → k < suc n
     by (inl i) rest = let l : k < n = rest i in omega arith
     by (inr (inl e)) rest = omega arith
     by (inr (inr z)) rest = absurd z
 
+pub In-numbers_below : (n k : ℕ) → k < n → In k (numbers_below n)
+In-numbers_below zero k h = absurd (omega arith)
+In-numbers_below (suc n) k h = by (cases_eq k n) (In-numbers_below n k)
+  where
+    by : (k ≡ n) ⊎ (k ≡ n → ⊥) → (k < n → In k (numbers_below n)) → In k (numbers_below n ++ n ∷ [])
+    by (inl e) rest = In-append_right (numbers_below n) (n ∷ []) k (inl e)
+    by (inr ne) rest = In-append_left (numbers_below n) (n ∷ []) k (rest (omega arith))
+
 pub AreDistinct-numbers_below : (n : ℕ) → AreDistinct (numbers_below n)
 AreDistinct-numbers_below zero = tt
-AreDistinct-numbers_below (suc n) = AreDistinct-push (numbers_below n) n (AreDistinct-numbers_below n) (λ h. let l : n < n = In-numbers_below n n h in omega arith)
+AreDistinct-numbers_below (suc n) = AreDistinct-push (numbers_below n) n (AreDistinct-numbers_below n) (λ h. let l : n < n = from_In-numbers_below n n h in omega arith)
 
 pub length-numbers_below : (n : ℕ) → length (numbers_below n) ≡ n
 length-numbers_below zero = refl
@@ -82,11 +67,7 @@ pub rank-suc_true : (p : ℕ → Bool) (n : ℕ) → p n ≡ true → rank p (su
 rank-suc_true p n e = ap length (filter-numbers_below_suc p n true e) ∙ length-append (filter p (numbers_below n)) (n ∷ [])
 
 pub rank-suc_false : (p : ℕ → Bool) (n : ℕ) → p n ≡ false → rank p (suc n) ≡ rank p n
-rank-suc_false p n e = ap length (filter-numbers_below_suc p n false e) ∙ ap length (append_nil (filter p (numbers_below n)))
-  where
-    append_nil : (l : List ℕ) → l ++ [] ≡ l
-    append_nil [] = refl
-    append_nil (a ∷ l) = ap (λ w. a ∷ w) (append_nil l)
+rank-suc_false p n e = ap length (filter-numbers_below_suc p n false e) ∙ ap length (append-nil (filter p (numbers_below n)))
 
 rank-suc : (p : ℕ → Bool) (n : ℕ) → (rank p n ≤ rank p (suc n)) × (rank p (suc n) ≤ rank p n + 1)
 rank-suc p n = by (p n) refl

@@ -34,9 +34,6 @@ relabel_statement σ st = record {
   graph_name = relabel_graph_name σ st.graph_name;
 }
 
-abbrev pub relabel : (ℕ → ℕ) → Dataset → Dataset
-relabel σ D = record { nodes = D.nodes; statements = map (relabel_statement σ) D.statements }
-
 -- ---- isomorphism
 
 -- the map carries the quads of D exactly to those of E

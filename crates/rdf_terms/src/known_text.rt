@@ -1,37 +1,23 @@
-//! The IRIs of the datatypes that most literals have (RDF 1.1 Concepts, section 5.1).
+//! Texts that many terms have, as constants.
 ghost use Rattle.std.specs.Prelude.{◌≡◌, IfSome};
 
-const XSD_STRING: &str = "http://www.w3.org/2001/XMLSchema#string";
+use crate::xsd;
 
-const XSD_BOOLEAN: &str = "http://www.w3.org/2001/XMLSchema#boolean";
-
-const XSD_DECIMAL: &str = "http://www.w3.org/2001/XMLSchema#decimal";
-
-const XSD_INTEGER: &str = "http://www.w3.org/2001/XMLSchema#integer";
-
-const XSD_DOUBLE: &str = "http://www.w3.org/2001/XMLSchema#double";
-
-const XSD_DATE: &str = "http://www.w3.org/2001/XMLSchema#date";
-
-const XSD_TIME: &str = "http://www.w3.org/2001/XMLSchema#time";
-
-const XSD_DATE_TIME: &str = "http://www.w3.org/2001/XMLSchema#dateTime";
-
-/// The same text as a constant, where it is one that many terms have.
+/// The same text as a constant, where it is the IRI of a datatype that most literals have.
 // Out of line, so that the copy of a short text stays small.
 #[inline(never)]
 pub(crate) fn known_text(text: &str) -> Option<&'static str>
     ensures { IfSome result (λ known. known.now ≡ text.now) }
 {
     match text {
-        XSD_STRING => Some(XSD_STRING),
-        XSD_BOOLEAN => Some(XSD_BOOLEAN),
-        XSD_DECIMAL => Some(XSD_DECIMAL),
-        XSD_INTEGER => Some(XSD_INTEGER),
-        XSD_DOUBLE => Some(XSD_DOUBLE),
-        XSD_DATE => Some(XSD_DATE),
-        XSD_TIME => Some(XSD_TIME),
-        XSD_DATE_TIME => Some(XSD_DATE_TIME),
+        xsd::STRING => Some(xsd::STRING),
+        xsd::BOOLEAN => Some(xsd::BOOLEAN),
+        xsd::DECIMAL => Some(xsd::DECIMAL),
+        xsd::INTEGER => Some(xsd::INTEGER),
+        xsd::DOUBLE => Some(xsd::DOUBLE),
+        xsd::DATE => Some(xsd::DATE),
+        xsd::TIME => Some(xsd::TIME),
+        xsd::DATE_TIME => Some(xsd::DATE_TIME),
         _ => None,
     }
 }

@@ -3,6 +3,7 @@
 
 pub use bytes::Bytes;
 pub use draft::Draft;
+pub use lexicon::Lexicon;
 pub use memory::NoMemory;
 pub use node_list::NodeList;
 pub use pair_list::{Bijection, PairList};
@@ -20,6 +21,8 @@ mod finish;
 mod hashed_term;
 mod inline_text;
 mod known_text;
+pub mod laws;
+mod lexicon;
 mod lookup_hash;
 mod memory;
 mod node_list;
@@ -32,3 +35,4 @@ mod table;
 mod term;
 mod term_ref;
 mod term_text;
+pub mod xsd;

@@ -3,7 +3,7 @@
 ghost use Rattle.std.specs.Prelude.{◌≡◌};
 ghost use Rattle.rdf_terms.specs.Document.{IsDocument};
 
-use crate::{Label, Quad, TermTable};
+use crate::{Label, Lexicon, Quad, TermTable};
 use indexmap::IndexSet;
 use std::hash::RandomState;
 use std::marker::Model;
@@ -62,5 +62,16 @@ impl Parsed {
         ensures document { IsDocument self.now }
     {
         self.labels.as_slice()
+    }
+    /// Gives the memory of the quads back.
+    pub fn into_lexicon(self) -> Lexicon
+        ensures { result ≡ record { terms = self.terms; labels = self.labels } }
+    {
+        let Parsed {
+            terms,
+            quads: _,
+            labels,
+        } = self;
+        Lexicon::new(terms, labels)
     }
 }
