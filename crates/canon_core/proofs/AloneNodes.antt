@@ -17,9 +17,10 @@ use Rattle.canon_model.specs.Issuer.{is_issued}
 use Rattle.canon_model.proofs.CanonicalLists.{from_In-single, unique_hashes-canonical}
 use Rattle.canon_model.proofs.IssueEach.{issue_each-new}
 use Rattle.canon_model.proofs.Issuers.{AreOnce, are_once_from_distinct}
-use Rattle.canon_model.proofs.Membership.{from_In-filter, from_In-flat_map}
 use Rattle.canon_model.proofs.Pigeonhole.{are_once-length}
-use Rattle.canon_model.proofs.StartNodes.{from_In-numbers_below}
+use Rattle.rdf_terms.proofs.MadeLists.{from_In-filter, from_In-flat_map, AreDistinct-append}
+use Rattle.rdf_terms.proofs.Ranks.{from_In-numbers_below}
+use Rattle.canon_model.proofs.Neighbours.{from_In-each_text_once}
 
 -- ---- each text of an ascending list once
 
@@ -27,16 +28,6 @@ at_most-all : (y z : Text) (ys : List Text) → Ascends (y ∷ ys) → In z ys �
 at_most-all y z [] a h = absurd h
 at_most-all y z (w ∷ ys) a (inl e) = subst (λ v. is_at_most y v ≡ true) (sym e) a.0
 at_most-all y z (w ∷ ys) a (inr h) = is_at_most-trans y w z a.0 (at_most-all w z ys a.1 h)
-
-from_In-once : (z : Text) (xs : List Text) → In z (each_text_once xs) → In z xs
-from_In-once z [] h = h
-from_In-once z (x ∷ []) h = h
-from_In-once z (x ∷ y ∷ ys) h = by (bytes_eq x y) (from_In-once z (y ∷ ys)) h
-  where
-    by : (b : Bool) → (In z (each_text_once (y ∷ ys)) → In z (y ∷ ys)) → In z (cond b (each_text_once (y ∷ ys)) (x ∷ each_text_once (y ∷ ys))) → In z (x ∷ y ∷ ys)
-    by true r h = inr (r h)
-    by false r (inl e) = inl e
-    by false r (inr h) = inr (r h)
 
 not_again : (x y : Text) (ys : List Text) → Ascends (x ∷ y ∷ ys) → bytes_eq x y ≡ false → ¬ (In x (y ∷ ys))
 not_again x y ys a f h = true≢false (sym ((bytes_eq-Decides x y).1 (same h)) ∙ f)
@@ -52,17 +43,9 @@ AreDistinct-once (x ∷ y ∷ ys) a = by (bytes_eq x y) refl (AreDistinct-once (
   where
     by : (b : Bool) → bytes_eq x y ≡ b → AreDistinct (each_text_once (y ∷ ys)) → AreDistinct (cond b (each_text_once (y ∷ ys)) (x ∷ each_text_once (y ∷ ys)))
     by true e r = r
-    by false e r = ((λ h. not_again x y ys a e (from_In-once x (y ∷ ys) h)), r)
+    by false e r = ((λ h. not_again x y ys a e (from_In-each_text_once x (y ∷ ys) h)), r)
 
 -- ---- lists that are put behind one another
-
-AreDistinct-append : (xs ys : List ℕ) → AreDistinct xs → AreDistinct ys → ((x : ℕ) → In x xs → ¬ (In x ys)) → AreDistinct (xs ++ ys)
-AreDistinct-append [] ys a b apart = b
-AreDistinct-append (x ∷ xs) ys a b apart = ((λ h. by (In-append xs ys x h)), AreDistinct-append xs ys a.1 b (λ z h. apart z (inr h)))
-  where
-    by : In x xs ⊎ In x ys → ⊥
-    by (inl h) = a.0 h
-    by (inr h) = apart x (inl refl) h
 
 AreDistinct-flat_map : (f : Text → List ℕ) → ((h : Text) → AreDistinct (f h)) → ((h k : Text) (x : ℕ) → In x (f h) → In x (f k) → h ≡ k) → (hs : List Text) → AreDistinct hs → AreDistinct (flat_map f hs)
 AreDistinct-flat_map f once apart [] d = tt

@@ -8,8 +8,9 @@ use Rattle.std.proofs.lemmas.Cmp.{tied_itself}
 use Rattle.std.proofs.lemmas.List.Sorted.{ranks_by, sorted_far}
 use Rattle.rdf_terms.specs.Lists.{In, AreDistinct, numbers_below}
 use Rattle.rdf_terms.proofs.Membership.{In-append, In-map}
-use Rattle.rdf_terms.proofs.Ranks.{In-filter, In-numbers_below}
+use Rattle.rdf_terms.proofs.Ranks.{from_In-numbers_below}
 use Rattle.canon_core.specs.HashOrder.{StrictlyAscends}
+use Rattle.rdf_terms.proofs.MadeLists.{from_In-filter}
 
 -- ---- by any total order
 
@@ -79,7 +80,7 @@ module _ {A : Type 0} (cmp : A → A → Ordering) where
   StrictlyAscends-filter test (x ∷ xs) a = by (test x) (StrictlyAscends-filter test xs a.1)
     where
       by : (b : Bool) → StrictlyAscends cmp (filter test xs) → StrictlyAscends cmp (cond b (x ∷ filter test xs) (filter test xs))
-      by true r = (λ y h. a.0 y (In-filter test xs y h).0, r)
+      by true r = (λ y h. a.0 y (from_In-filter test y xs h).0, r)
       by false r = r
 
   StrictlyAscends-push : (xs : List A) (x : A) → StrictlyAscends cmp xs → ((y : A) → In y xs → cmp y x ≡ Less) → StrictlyAscends cmp (xs ++ x ∷ [])
@@ -98,4 +99,4 @@ nat_cmp-less m n l = grind (arith, nat_tests)
 
 pub StrictlyAscends-numbers_below : (n : ℕ) → StrictlyAscends nat_cmp (numbers_below n)
 StrictlyAscends-numbers_below zero = tt
-StrictlyAscends-numbers_below (suc n) = StrictlyAscends-push nat_cmp (numbers_below n) n (StrictlyAscends-numbers_below n) (λ y h. nat_cmp-less y n (In-numbers_below n y h))
+StrictlyAscends-numbers_below (suc n) = StrictlyAscends-push nat_cmp (numbers_below n) n (StrictlyAscends-numbers_below n) (λ y h. nat_cmp-less y n (from_In-numbers_below n y h))

@@ -10,15 +10,14 @@ use Rattle.std.proofs.lemmas.List.{drop-drop}
 use Rattle.std.proofs.lemmas.Slice.Eq.{bytes_eq-Decides}
 use Rattle.rdf_terms.specs.Lists.{In, Text, is_before, numbers_below}
 use Rattle.rdf_terms.proofs.Membership.{from_In-map, In-map}
-use Rattle.rdf_terms.proofs.Ranks.{In-filter as from_In-filter, In-numbers_below as below_from_In}
+use Rattle.rdf_terms.proofs.Ranks.{from_In-numbers_below as below_from_In, In-numbers_below as In_from_below}
 use Rattle.rdf_terms.proofs.TextOrder.{is_before-irrefl, same_from_neither_before}
 use Rattle.canonical_writer.proofs.FrontOrder.{slice_from}
 use Rattle.canon_model.specs.Groups.{each_text_once}
 use Rattle.canon_model.proofs.IssueEach.{false_of}
-use Rattle.canon_model.proofs.Membership.{In-filter}
-use Rattle.canon_model.proofs.StartNodes.{In-numbers_below as In_from_below}
 use Rattle.canon_core.specs.HashOrder.{StrictlyAscends, IsRanked, class_hash, front_class, behind_class, hash_of, node_of, node_cmp, nodes_under}
 use Rattle.canon_core.proofs.Ascending.{same_ascending, StrictlyAscends-filter, StrictlyAscends-numbers_below}
+use Rattle.rdf_terms.proofs.MadeLists.{from_In-filter, In-filter}
 
 abbrev Pair : Type 0
 Pair = Text × ℕ
@@ -172,7 +171,7 @@ module _ (hash : ℕ → Text) (count : ℕ) (p : Pair) (xs : List Pair) (r : Is
 
   there_class : (n : ℕ) → In n (nodes_under hash count p.0) → In n (map node_of (front_class p.0 (p ∷ xs)))
   there_class n i =
-      let f = from_In-filter (λ m. bytes_eq (hash m) p.0) (numbers_below count) n i in
+      let f = from_In-filter (λ m. bytes_eq (hash m) p.0) n (numbers_below count) i in
       let at : hash n ≡ p.0 = (bytes_eq-Decides (hash n) p.0).0 f.1 in
       In-map node_of (front_class p.0 (p ∷ xs)) (hash n, n) (In-front_from p.0 (p ∷ xs) r.ascends least (hash n, n) (r.whole p (inl refl) n (below_from_In count n f.0) at) at)
 

@@ -5,6 +5,7 @@ use Rattle.id_issuer.specs.IssuedList.{list_with}
 use Rattle.canon_model.specs.Allowed.{HashPathResult, issue_results}
 use Rattle.canon_model.specs.Issuer.{issue, issue_each}
 use Rattle.canon_model.proofs.Issuers.{is_issued-place_of}
+use Rattle.canon_model.proofs.TwoLists.{issue_results-append}
 
 list_with-issue : (list : List ℕ) (n : ℕ) → list_with list n ≡ issue list n
 list_with-issue list n = ap (λ b. cond b list (list ++ n ∷ [])) (sym (is_issued-place_of n list))
@@ -12,10 +13,6 @@ list_with-issue list n = ap (λ b. cond b list (list ++ n ∷ [])) (sym (is_issu
 issue_each-append : (c xs ys : List ℕ) → issue_each c (xs ++ ys) ≡ issue_each (issue_each c xs) ys
 issue_each-append c [] ys = refl
 issue_each-append c (x ∷ xs) ys = issue_each-append (issue c x) xs ys
-
-issue_results-append : (c : List ℕ) (rs qs : List HashPathResult) → issue_results c (rs ++ qs) ≡ issue_results (issue_results c rs) qs
-issue_results-append c [] qs = refl
-issue_results-append c (r ∷ rs) qs = issue_results-append (issue_each c r.issuer) rs qs
 
 pub issue_each-more : (c nodes list new : List ℕ) (i d : ℕ) → i < length nodes → list ≡ issue_each c (take i nodes) → new ≡ list_with list (get_or nodes i d) → new ≡ issue_each c (take (i + 1) nodes)
 issue_each-more c nodes list new i d l h e =

@@ -9,7 +9,7 @@ use Rattle.canon_model.specs.Hashing.{Hashing}
 use Rattle.canon_model.proofs.CanonicalLists.{AreCanonical, valid_start}
 use Rattle.canon_model.proofs.CountedAllowed.{counted_results-canonical, outcome_of_start}
 use Rattle.canon_model.proofs.Issuers.{In-from_is_issued, are_distinct_from_once, are_once_from_distinct, is_issued-from_In}
-use Rattle.canon_model.proofs.Maps.{length-map, map-map, map_identity}
+use Rattle.canon_model.proofs.Maps.{map_identity}
 use Rattle.canon_model.proofs.Recursion.{outcomes_are_valid}
 use Rattle.canon_model.proofs.RunTies.{from_start, results-ties}
 use Rattle.canon_model.proofs.SortedResults.{sort_results-permutes}
@@ -21,11 +21,8 @@ use Rattle.canon_core.specs.HashOrder.{StrictlyAscends, start_of_result}
 use Rattle.canon_core.specs.Results.{MayBeLogged, MayStart, StartsAscend}
 use Rattle.canon_core.proofs.Ascending.{StrictlyAscends-filter, StrictlyAscends-numbers_below}
 use Rattle.canon_core.proofs.LoggedTies.{logs-append}
-
-pub In-get_or : {A : Type 0} (xs : List A) (k : ℕ) (d : A) → k < length xs → In (get_or xs k d) xs
-In-get_or [] k d l = absurd (omega arith)
-In-get_or (x ∷ xs) zero d l = inl refl
-In-get_or (x ∷ xs) (suc k) d l = inr (In-get_or xs k d (omega arith))
+use Rattle.std.proofs.lemmas.List.{length-map}
+use Rattle.rdf_terms.proofs.MadeLists.{map-map, In-get_or}
 
 pub canonical-so_far : (D : Dataset) (c : List ℕ) → IsCanonicalSoFar D c → AreCanonical D c
 canonical-so_far D c s = record { once = are_once_from_distinct c s.once; below = λ x h. s.below x (In-from_is_issued x c h) }
@@ -57,7 +54,7 @@ module _ (ρ : Hashing) (D : Dataset) (valid : IsValid D) (c : List ℕ) (k : Ar
   results-are nodes results ordered e f g = g ∙ ap sort_results (f ∙ ap (map (result_of ρ D c)) e)
 
   results-length : length (counted_results ρ D c h) ≡ length (unissued_nodes ρ D c h)
-  results-length = sym (length-Permutes (sort_results-permutes (map (result_of ρ D c) (unissued_nodes ρ D c h)))) ∙ length-map (result_of ρ D c) (unissued_nodes ρ D c h)
+  results-length = sym (length-Permutes (sort_results-permutes (map (result_of ρ D c) (unissued_nodes ρ D c h)))) ∙ length-map (unissued_nodes ρ D c h) (result_of ρ D c)
 
   pub as-many : (nodes : List ℕ) (ordered : List HashPathResult) → nodes ≡ unissued_nodes ρ D c h → ordered ≡ counted_results ρ D c h → length ordered ≡ length nodes
   as-many nodes ordered e f = ap (λ rs. length rs) f ∙ results-length ∙ ap (λ ns. length ns) (sym e)

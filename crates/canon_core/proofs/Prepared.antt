@@ -13,8 +13,9 @@ use Rattle.canon_core.specs.Classes.{IsCanonicalSoFar, IsInHashOrder, alone_unde
 use Rattle.canon_core.specs.HashOrder.{StrictlyAscends, hash_in, node_cmp}
 use Rattle.canon_core.proofs.AloneNodes.{alone-below, run-alone}
 use Rattle.canon_core.proofs.AloneSoFar.{alone_in}
-use Rattle.canon_core.proofs.OneClass.{In-get_or, so_far-canonical}
+use Rattle.canon_core.proofs.OneClass.{so_far-canonical}
 use Rattle.canon_core.proofs.RankedNodes.{hashes-are, paired, permutes-table, ranked-all}
+use Rattle.rdf_terms.proofs.MadeLists.{In-get_or}
 
 module _ (ρ : Hashing) (D : Dataset) where
   pub in-hash-order : (hashes : List Text) (count : ℕ) (nodes : List (Text × ℕ)) → hashes ≡ map (hash_first_degree_quads ρ D) (numbers_below D.nodes) → count ≡ D.nodes

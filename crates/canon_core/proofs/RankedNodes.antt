@@ -9,15 +9,15 @@ use Rattle.std.proofs.lemmas.List.{get_or-map}
 use Rattle.rdf_terms.specs.Lists.{In, Permutes, Text, numbers_below, permutes_trans, sorted}
 use Rattle.rdf_terms.proofs.Membership.{In-map, from_In-map}
 use Rattle.rdf_terms.proofs.Permutations.{AreDistinct-Permutes, In-Permutes, Permutes-from_equal, Permutes-map, Permutes-sym}
-use Rattle.rdf_terms.proofs.Ranks.{AreDistinct-numbers_below, In-numbers_below, get_or-numbers_below, length-numbers_below, map-numbers_below}
+use Rattle.rdf_terms.proofs.Ranks.{AreDistinct-numbers_below, from_In-numbers_below, get_or-numbers_below, length-numbers_below, map-numbers_below, In-numbers_below as In_from_below}
 use Rattle.rdf_terms.proofs.SortedTexts.{Ascends, sorted-Ascends, sorted-Permutes}
 use Rattle.rdf_terms.proofs.TextOrder.{is_at_most-from_not_before}
 use Rattle.canon_model.specs.Groups.{each_text_once}
-use Rattle.canon_model.proofs.Maps.{map-map, map_identity}
-use Rattle.canon_model.proofs.StartNodes.{In-numbers_below as In_from_below}
+use Rattle.canon_model.proofs.Maps.{map_identity}
 use Rattle.canon_core.specs.HashOrder.{IsRanked, StrictlyAscends, hash_in, hash_of, node_of, node_cmp, result_cmp, hash_of_result, start_of_result}
 use Rattle.canon_core.proofs.Ascending.{ascends_from_sort}
 use Rattle.canon_core.proofs.ClassSplit.{hash_not_before}
+use Rattle.rdf_terms.proofs.MadeLists.{map-map}
 
 abbrev pub paired : (ℕ → Text) → ℕ → Text × ℕ
 paired hash n = (hash n, n)
@@ -65,7 +65,7 @@ module _ (hash : ℕ → Text) (count : ℕ) (nodes : List (Text × ℕ)) (all :
   ranked-all = record {
     ascends = up;
     own_hash = λ p i. let f = from_number p i in ap hash_of f.2 ∙ ap hash (sym (ap node_of f.2));
-    below = λ p i. let f = from_number p i in subst (λ n. n < count) (sym (ap node_of f.2)) (In-numbers_below count f.0 f.1);
+    below = λ p i. let f = from_number p i in subst (λ n. n < count) (sym (ap node_of f.2)) (from_In-numbers_below count f.0 f.1);
     whole = λ p i n low e. In-Permutes (paired hash n) all (In-map (paired hash) (numbers_below count) n (In_from_below count n low));
   }
 

@@ -10,7 +10,7 @@ use Rattle.rdf_terms.proofs.Membership.{In-map}
 use Rattle.rdf_terms.proofs.Permutations.{AreDistinct-Permutes, In-Permutes, Permutes-map, Permutes-sym}
 use Rattle.canon_model.specs.Allowed.{HashPathResult}
 use Rattle.canon_model.specs.CountedRun.{insert_result, sort_results}
-use Rattle.canon_model.proofs.SortedResults.{sort_results-permutes}
+use Rattle.canon_model.proofs.SortedResults.{sort_results-permutes, from_In-insert_result}
 use Rattle.canon_core.specs.HashOrder.{StrictlyAscends, result_cmp, start_of_result}
 use Rattle.canon_core.specs.Results.{StartsAscend}
 use Rattle.canon_core.proofs.Ascending.{ascends_from_sort, nat_cmp-less, not_itself, same_ascending}
@@ -21,15 +21,6 @@ AreDistinct-ascending cmp o [] a = tt
 AreDistinct-ascending cmp o (x ∷ xs) a = ((λ h. not_itself cmp o x (a.0 x h)), AreDistinct-ascending cmp o xs a.1)
 
 -- ---- the sort of the counted run
-
-from_In-insert : (r z : HashPathResult) (qs : List HashPathResult) → In z (insert_result r qs) → (z ≡ r) ⊎ In z qs
-from_In-insert r z [] h = h
-from_In-insert r z (q ∷ qs) h = by (is_at_most r.hash q.hash) h (from_In-insert r z qs)
-  where
-    by : (t : Bool) → In z (cond t (r ∷ q ∷ qs) (q ∷ insert_result r qs)) → (In z (insert_result r qs) → (z ≡ r) ⊎ In z qs) → (z ≡ r) ⊎ In z (q ∷ qs)
-    by true h f = h
-    by false (inl e) f = inr (inl e)
-    by false (inr e) f = elim (f e) [ inl a ↦ inl a | inr a ↦ inr (inr a) ]
 
 before_at_most : (r q : HashPathResult) → is_at_most r.hash q.hash ≡ true → r.start < q.start → result_cmp r q ≡ Less
 before_at_most r q e l = by (slice_cmp nat_cmp r.hash q.hash) e
@@ -61,7 +52,7 @@ insert-ascends r (q ∷ qs) a low = by (is_at_most r.hash q.hash) refl (insert-a
           a,
         )
     by false e ih = (
-      λ z h. elim (from_In-insert r z qs h) [
+      λ z h. elim (from_In-insert_result r z qs h) [
         | inl g ↦ subst (λ w. result_cmp q w ≡ Less) (sym g) (before_not_at_most r q e)
         | inr g ↦ a.0 z g
       ],

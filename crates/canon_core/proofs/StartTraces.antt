@@ -1,11 +1,10 @@
 -- Start nodes one after the other.
 use Rattle.std.proofs.Common.{◌≡◌, ℕ, suc, ◌+◌, ◌<◌, List, [], ◌∷◌, ◌++◌, length, take, drop, get_or, drop-cons, map, sym, ap, ◌∙◌, subst, arith}
-use Rattle.std.proofs.lemmas.List.{take-append-drop, take_more}
+use Rattle.std.proofs.lemmas.List.{take-append-drop, take_more, map-append}
 use Rattle.rdf_terms.specs.Dataset.{Dataset}
 use Rattle.canon_model.specs.Allowed.{HashPathResult}
 use Rattle.canon_model.specs.CountedRun.{Trace, counted_start, followed_by, result_of, trace_of_starts}
 use Rattle.canon_model.specs.Hashing.{Hashing}
-use Rattle.canon_model.proofs.Maps.{map-append}
 use Rattle.ndegree_hash.specs.Log.{LoggedTies, LogsAll}
 use Rattle.ndegree_hash.proofs.Traces.{followed_by-nothing}
 use Rattle.canon_core.proofs.LoggedTies.{logs-append}

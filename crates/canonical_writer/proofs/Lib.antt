@@ -1,4 +1,3 @@
-mod NumeralDigits
 pub mod Escaping
 pub mod Texts
 mod LinePlaces
@@ -9,7 +8,7 @@ mod Fronts
 mod Groups
 mod Stretches
 pub mod FrontOrder
-mod FrontStretches
+mod MovedKeys
 pub mod Unescaping
 pub mod TermTexts
 pub mod LineTexts

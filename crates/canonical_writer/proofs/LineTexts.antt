@@ -1,12 +1,12 @@
 -- A statement is known by its canonical line, and a line has a line feed at its end alone.
 use Rattle.std.proofs.Common.{◌≡◌, ◌≢◌, ℕ, ◌≤◌, List, [], ◌∷◌, ◌++◌, Option, Some, None, All, IfSome, refl, sym, ap, ◌∙◌, arith, append_assoc, length, length-append}
-use Rattle.std.proofs.lemmas.List.Elements.{All-head, All-tail, All-append, All-weaker}
+use Rattle.std.proofs.lemmas.List.Elements.{All-head, All-tail, All-append, All-weaker, All-nil}
 use Rattle.rdf_terms.specs.Lists.{Text, joined}
 use Rattle.rdf_terms.specs.Terms.{Statement, IsValidStatement, IsValidTerm}
 use Rattle.rdf_terms.specs.CanonicalForm.{Naming, canonical_term, canonical_graph_name, canonical_line}
 use Rattle.rdf_terms.specs.declared.term.Term.{Term}
 use Rattle.canonical_writer.specs.Determined.{HasPlainNames, Agree, AgreeGraphNames}
-use Rattle.canonical_writer.proofs.Splitting.{head_of, All-none, split_at}
+use Rattle.canonical_writer.proofs.Splitting.{head_of, split_at}
 use Rattle.canonical_writer.proofs.Unescaping.{printable_byte}
 use Rattle.canonical_writer.proofs.TermTexts.{same_term, no_dot, term-printable}
 
@@ -44,9 +44,9 @@ module _ (ν : Naming) (n : ℕ) (plain : HasPlainNames n ν) where
   place-printable t rest v h = All-append (λ c. 32 ≤ c) (canonical_term ν t) (32 ∷ rest) (term-printable ν n plain t v) (printable_byte 32 (omega arith) rest h)
 
   graph_name-printable : (g : Option Term) → IfSome g (IsValidTerm n) → All (λ c. 32 ≤ c) (canonical_graph_name ν g ++ 46 ∷ [])
-  graph_name-printable None v = printable_byte 46 (omega arith) [] (All-none _)
+  graph_name-printable None v = printable_byte 46 (omega arith) [] (All-nil _)
   graph_name-printable (Some t) v =
-      rw (append_assoc (canonical_term ν t) (32 ∷ []) (46 ∷ [])) (place-printable t (46 ∷ []) v (printable_byte 46 (omega arith) [] (All-none _)))
+      rw (append_assoc (canonical_term ν t) (32 ∷ []) (46 ∷ [])) (place-printable t (46 ∷ []) v (printable_byte 46 (omega arith) [] (All-nil _)))
 
   pub line_body-printable : (st : Statement) → IsValidStatement n st → All (λ c. 32 ≤ c) (line_body ν st)
   line_body-printable st v =

@@ -1,13 +1,7 @@
 -- Lists whose images are the same up to order.
 use Rattle.std.proofs.Common.{◌≡◌, List, [], ◌∷◌, map, All, refl, sym, inl, inr}
-use Rattle.std.proofs.lemmas.List.Elements.{All-cons}
 use Rattle.rdf_terms.specs.Lists.{In, Permutes, permutes_nil, permutes_cons, permutes_swap, permutes_trans}
 use Rattle.rdf_terms.proofs.Permutations.{In-Permutes, Permutes-map, Permutes-from_equal, Permutes-sym}
-use Rattle.canonical_writer.proofs.Splitting.{All-none}
-
-pub All-from_members : {A : Type 0} (P : A → Type 0) (xs : List A) → ((x : A) → In x xs → P x) → All P xs
-All-from_members P [] h = All-none P
-All-from_members P (x ∷ xs) h = All-cons P x xs (h x (inl refl)) (All-from_members P xs (λ y there. h y (inr there)))
 
 module _ {A C : Type 0} (f : A → C) where
   -- images in another order are the images of the list in another order

@@ -2,7 +2,7 @@
 use Rattle.std.proofs.Common.{◌≡◌, ℕ, List, ◌∷◌, Option, Some, None, IsSome, All, get_or, refl, sym, ap, ◌∙◌, arith, true, true≢false}
 use Rattle.std.specs.Char.{is_ascii_alphanumeric}
 use Rattle.std.proofs.lemmas.Bool.Decides.{nat_tests}
-use Rattle.std.proofs.lemmas.List.Elements.{All-cons, All-weaker}
+use Rattle.std.proofs.lemmas.List.Elements.{All-cons, All-weaker, All-nil}
 use Rattle.rdf_terms.specs.Numeral.{numeral}
 use Rattle.rdf_terms.specs.CanonicalForm.{place_of, issued_name, issued_names, identifier, identifier_at, name_or_nothing}
 use Rattle.rdf_terms.specs.declared.term.Prefix.{Prefix}
@@ -11,7 +11,7 @@ use Rattle.rdf_terms.proofs.Numerals.{IsDigit, All-numeral, numeral-injective, i
 use Rattle.canonical_writer.specs.Names.{numbered_name}
 use Rattle.canonical_writer.specs.Determined.{HasPlainNames}
 use Rattle.canonical_writer.proofs.Placing.{place-found}
-use Rattle.canonical_writer.proofs.Splitting.{tail_of, All-none}
+use Rattle.canonical_writer.proofs.Splitting.{tail_of}
 
 -- two nodes of one issued name are one node
 same_by_places : (prefix : Prefix) (list : List ℕ) (m n : ℕ) (o p : Option ℕ) → place_of list m ≡ o → place_of list n ≡ p
@@ -49,5 +49,5 @@ pub HasPlainNames-issued : (prefix : Prefix) (list : List ℕ) (nodes : ℕ) →
 HasPlainNames-issued prefix list nodes n h = by (place_of list n)
   where
     by : (o : Option ℕ) → All (λ c. is_ascii_alphanumeric c ≡ true) (name_or_nothing (identifier_at prefix o))
-    by None = All-none _
+    by None = All-nil _
     by (Some k) = identifier-plain prefix k

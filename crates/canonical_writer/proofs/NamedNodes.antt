@@ -1,6 +1,6 @@
 -- Which statements have names for their nodes.
 use Rattle.std.proofs.Common.{ℕ, ◌<◌, List, [], ◌∷◌, map, All, Option, Some, None, IsSome, IfSome, refl, subst, sym}
-use Rattle.std.proofs.lemmas.List.Elements.{All-head, All-tail, All-cons}
+use Rattle.std.proofs.lemmas.List.Elements.{All-head, All-tail, All-cons, All-nil}
 use Rattle.rdf_terms.specs.Lists.{Text, In}
 use Rattle.rdf_terms.specs.Terms.{Statement, IsValidStatement, IsValidTerm}
 use Rattle.rdf_terms.specs.Document.{statement}
@@ -11,7 +11,6 @@ use Rattle.rdf_terms.specs.declared.term.Quad.{Quad}
 use Rattle.rdf_terms.specs.declared.term.Prefix.{Prefix}
 use Rattle.canonical_writer.specs.Names.{HasNames, IsNamed, degree_name, numbered_name}
 use Rattle.canonical_writer.proofs.Placing.{place-here}
-use Rattle.canonical_writer.proofs.Splitting.{All-none}
 
 -- ---- names of all numbers
 
@@ -56,7 +55,7 @@ module _ (nodes : ℕ) (name : ℕ → Option Text) (all : (n : ℕ) → n < nod
 
   -- what `write_sorted` asks of the quads of a document
   pub All-HasNames-valid : (terms : List Term) (quads : List Quad) → All (IsValidStatement nodes) (map (statement terms) quads) → All (λ q. HasNames name (statement terms q)) quads
-  All-HasNames-valid terms [] v = All-none _
+  All-HasNames-valid terms [] v = All-nil _
   All-HasNames-valid terms (q ∷ qs) v =
       All-cons (λ q. HasNames name (statement terms q)) q qs (HasNames-valid (statement terms q) (All-head (IsValidStatement nodes) (statement terms q) (map (statement terms) qs) v))
       (All-HasNames-valid terms qs (All-tail (IsValidStatement nodes) (statement terms q) (map (statement terms) qs) v))

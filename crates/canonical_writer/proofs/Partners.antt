@@ -5,7 +5,8 @@ use Rattle.rdf_terms.specs.Lists.{In}
 use Rattle.rdf_terms.specs.Isomorphism.{Relabelling}
 use Rattle.rdf_terms.specs.CanonicalForm.{place_of}
 use Rattle.canonical_writer.specs.Determined.{ListsNodes}
-use Rattle.canonical_writer.proofs.Placing.{place-found, place-here, place-get_or, In-get_or, length-all_below, length-distinct_below}
+use Rattle.canonical_writer.proofs.Placing.{place-found, place-here, place-get_or, length-all_below, length-distinct_below}
+use Rattle.rdf_terms.proofs.MadeLists.{In-get_or}
 
 -- the number at the place in the other list; a number with no place stays
 abbrev at_place : List ℕ → Option ℕ → ℕ → ℕ
@@ -17,7 +18,7 @@ partner c d n = at_place d (place_of c n) n
 
 pub length-listed : (nodes : ℕ) (c : List ℕ) → ListsNodes nodes c → length c ≡ nodes
 length-listed nodes c l =
-    let le : length c ≤ nodes = length-distinct_below c nodes l.distinct (λ k h. (l.all (get_or c k 0)).0 (In-get_or c k h)) in
+    let le : length c ≤ nodes = length-distinct_below c nodes l.distinct (λ k h. (l.all (get_or c k 0)).0 (In-get_or c k 0 h)) in
     let ge : nodes ≤ length c = length-all_below c nodes (λ q h. (l.all q).1 h) in
     omega arith
 
@@ -41,7 +42,7 @@ module _ (nodes : ℕ) (c d : List ℕ) (lc : ListsNodes nodes c) (ld : ListsNod
       nowhere None f past = refl
       nowhere (Some j) f past =
           let q = place-found d n j f in
-          absurd (past ((ld.all n).0 (subst (λ m. In m d) q.1 (In-get_or d j q.0))))
+          absurd (past ((ld.all n).0 (subst (λ m. In m d) q.1 (In-get_or d j 0 q.0))))
 
       by : (o : Option ℕ) → place_of c n ≡ o → partner d c (at_place d o n) ≡ n
       by None e = nowhere (place_of d n) refl (none_past n e)
@@ -56,7 +57,7 @@ module _ (nodes : ℕ) (c d : List ℕ) (lc : ListsNodes nodes c) (ld : ListsNod
       let p = place-here c n ((lc.all n).1 h) in
       let q = place-found c n p.0 p.1 in
       let r : p.0 < length d = omega (arith, q.0, as_long) in
-      subst (λ m. m < nodes) (sym (partner-at n p.0 p.1 q.0)) ((ld.all (get_or d p.0 0)).0 (In-get_or d p.0 r))
+      subst (λ m. m < nodes) (sym (partner-at n p.0 p.1 q.0)) ((ld.all (get_or d p.0 0)).0 (In-get_or d p.0 0 r))
 
   pub map-partner : map (partner c d) c ≡ d
   map-partner =

@@ -9,6 +9,7 @@ use Rattle.rdf_terms.specs.Lists.{In, AreDistinct}
 use Rattle.rdf_terms.specs.CanonicalForm.{place_of, after_first}
 use Rattle.rdf_terms.proofs.Membership.{one_place, place_in, present, In-at}
 use Rattle.canonical_writer.specs.Places.{TellsPlaces}
+use Rattle.rdf_terms.proofs.MadeLists.{In-get_or, one_place_within}
 
 -- ---- the place of a number
 
@@ -38,9 +39,6 @@ told_place list places n told there =
 
 -- ---- distinct numbers
 
-pub one_number : (xs : List ℕ) (i j : ℕ) → AreDistinct xs → i < length xs → j < length xs → get_or xs i 0 ≡ get_or xs j 0 → i ≡ j
-one_number xs i j d hi hj e = one_place xs i j (get_or xs j 0) d (slice_get-get_or xs i 0 hi ∙ ap Some e) (slice_get-get_or xs j 0 hj)
-
 to_test : (xs : List ℕ) → AreDistinct xs → IsDistinct (λ x y. x == y) xs
 unfolding IsDistinct
 to_test [] d = tt
@@ -65,7 +63,7 @@ pub told_more : (list places : List ℕ) (i : ℕ) → AreDistinct list → i < 
 told_more list places i d h room told =
     below_more _ _
     (λ k lt.
-    let ne : get_or list k 0 ≢ get_or list i 0 = λ e. absurd (let s : k ≡ i = one_number list k i d (omega arith) h e in omega (arith, s)) in
+    let ne : get_or list k 0 ≢ get_or list i 0 = λ e. absurd (let s : k ≡ i = one_place_within list k i 0 d (omega arith) h e in omega (arith, s)) in
     get_or-set_other places (get_or list i 0) (get_or list k 0) i 0 ne ∙ told k lt)
     (get_or-set_same places (get_or list i 0) i 0 room)
 
@@ -80,15 +78,12 @@ place-here (x ∷ xs) n h = by (x == n) refl h (place-here xs n)
     by false is (inl e) rest = absurd (eqb-false x n is (sym e))
     by false is (inr h) rest = let p = rest h in (suc p.0, ap after_first p.1)
 
-pub In-get_or : (xs : List ℕ) (k : ℕ) → k < length xs → In (get_or xs k 0) xs
-In-get_or xs k h = In-at xs k (get_or xs k 0) (slice_get-get_or xs k 0 h)
-
 -- the place of the number that stands at a place
 pub place-get_or : (xs : List ℕ) (k : ℕ) → AreDistinct xs → k < length xs → place_of xs (get_or xs k 0) ≡ Some k
 place-get_or xs k d h =
-    let p = place-here xs (get_or xs k 0) (In-get_or xs k h) in
+    let p = place-here xs (get_or xs k 0) (In-get_or xs k 0 h) in
     let q = place-found xs (get_or xs k 0) p.0 p.1 in
-    p.1 ∙ ap Some (one_number xs p.0 k d q.0 h q.1)
+    p.1 ∙ ap Some (one_place_within xs p.0 k 0 d q.0 h q.1)
 
 -- numbers that are all there make a list at least so long
 pub length-all_below : (xs : List ℕ) (n : ℕ) → ((q : ℕ) → q < n → In q xs) → n ≤ length xs

@@ -11,9 +11,6 @@ abbrev pub tail_of : Text → Text
 tail_of [] = []
 tail_of (x ∷ xs) = xs
 
-pub All-none : {A : Type 0} (P : A → Type 0) → All P []
-All-none P k d h = absurd (omega arith)
-
 -- what stands before the first d, and what stands behind it
 pub split_at : (d : ℕ) (xs ys r s : Text) → All (λ c. c ≢ d) xs → All (λ c. c ≢ d) ys → xs ++ d ∷ r ≡ ys ++ d ∷ s → (xs ≡ ys) × (r ≡ s)
 split_at d [] [] r s p q e = let h : r ≡ s = cc in (refl, h)

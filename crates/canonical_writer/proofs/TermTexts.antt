@@ -5,7 +5,7 @@ use Rattle.std.specs.List.{flat_map}
 use Rattle.std.specs.Str.{bytes_eq}
 use Rattle.std.proofs.lemmas.Bool.{or_parts}
 use Rattle.std.proofs.lemmas.Bool.Decides.{nat_tests}
-use Rattle.std.proofs.lemmas.List.Elements.{All-head, All-tail, All-cons, All-append, All-weaker}
+use Rattle.std.proofs.lemmas.List.Elements.{All-head, All-tail, All-cons, All-append, All-weaker, All-nil}
 use Rattle.std.proofs.lemmas.Slice.Eq.{bytes_eq-Decides}
 use Rattle.rdf_terms.specs.Lists.{Text}
 use Rattle.rdf_terms.specs.Terms.{IsAbsoluteIri, IsLanguageTag, IsSubtag, IsValidKind, IsValidTerm, is_excluded, behind_dashes}
@@ -15,7 +15,7 @@ use Rattle.rdf_terms.specs.declared.term.Term.TheVariants.{Iri, Blank, Literal}
 use Rattle.rdf_terms.specs.declared.term.LiteralKind.{LiteralKind}
 use Rattle.rdf_terms.specs.declared.term.LiteralKind.TheVariants.{Typed, Tagged}
 use Rattle.canonical_writer.specs.Determined.{HasPlainNames, AgreeTerms}
-use Rattle.canonical_writer.proofs.Splitting.{head_of, tail_of, All-none, split_at}
+use Rattle.canonical_writer.proofs.Splitting.{head_of, tail_of, split_at}
 use Rattle.canonical_writer.proofs.Unescaping.{same_string, string-printable, printable_byte}
 
 -- ---- bytes that stand in no IRI, tag or name
@@ -33,7 +33,7 @@ module _ (P : ℕ → Type 0) (plain : (c : ℕ) → is_ascii_alphanumeric c ≡
   All-plain t h = All-weaker (λ c. is_ascii_alphanumeric c ≡ true) P plain t h
 
   All-subtags : (ts : List Text) → All IsSubtag ts → All P (behind_dashes ts)
-  All-subtags [] h = All-none _
+  All-subtags [] h = All-nil _
   All-subtags (t ∷ ts) h =
       All-cons P 45 _ dash (All-append P t (behind_dashes ts) (All-plain t (All-head IsSubtag t ts h).alphanumeric) (All-subtags ts (All-tail IsSubtag t ts h)))
 
@@ -133,10 +133,10 @@ plain-printable c h = grind (arith, nat_tests)
 closed-printable : (a : Text) → IsAbsoluteIri a → All (λ c. 32 ≤ c) (60 ∷ (a ++ 62 ∷ []))
 closed-printable a f =
     printable_byte 60 (omega arith) (a ++ 62 ∷ [])
-    (All-append (λ c. 32 ≤ c) a (62 ∷ []) (All-weaker (λ c. is_excluded c ≡ false) (λ c. 32 ≤ c) allowed-printable a f.allowed) (printable_byte 62 (omega arith) [] (All-none _)))
+    (All-append (λ c. 32 ≤ c) a (62 ∷ []) (All-weaker (λ c. is_excluded c ≡ false) (λ c. 32 ≤ c) allowed-printable a f.allowed) (printable_byte 62 (omega arith) [] (All-nil _)))
 
 suffix-printable : (k : LiteralKind) (v : Text) → Suffix k v → IsValidKind k → All (λ c. 32 ≤ c) v
-suffix-printable k v (of_string a p) f = All-none _
+suffix-printable k v (of_string a p) f = All-nil _
 suffix-printable k v (of_type a) f = printable_byte 94 (omega arith) (94 ∷ 60 ∷ (a ++ 62 ∷ [])) (printable_byte 94 (omega arith) (60 ∷ (a ++ 62 ∷ [])) (closed-printable a f))
 suffix-printable k v (of_tag t) f = printable_byte 64 (omega arith) t (All-tag (λ c. 32 ≤ c) plain-printable (omega arith) t f)
 

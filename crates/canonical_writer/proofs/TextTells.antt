@@ -15,16 +15,12 @@ use Rattle.rdf_terms.proofs.Numerals.{identifier-injective}
 use Rattle.rdf_terms.proofs.Permutations.{In-Permutes, Permutes-sym, Permutes-from_equal}
 use Rattle.rdf_terms.proofs.SortedTexts.{sorted-permutes}
 use Rattle.canonical_writer.specs.Determined.{AgreeTerms, AgreeGraphNames, Agree, ListsNodes, CarriesLists}
-use Rattle.canonical_writer.proofs.Placing.{place-found, place-here, place-get_or, In-get_or}
+use Rattle.canonical_writer.proofs.Placing.{place-found, place-here, place-get_or}
 use Rattle.canonical_writer.proofs.NameTexts.{HasPlainNames-issued}
 use Rattle.canonical_writer.proofs.LineTexts.{IsLine, IsLine-canonical_line, same_line, same_lines}
-use Rattle.canonical_writer.proofs.Matching.{All-from_members, Permutes-matched}
+use Rattle.canonical_writer.proofs.Matching.{Permutes-matched}
 use Rattle.canonical_writer.proofs.Partners.{partner, partner-at, partners, map-partner, length-listed}
-
-All-member : {A : Type 0} (P : A → Type 0) (xs : List A) (x : A) → All P xs → In x xs → P x
-All-member P [] x all h = absurd h
-All-member P (y ∷ ys) x all (inl e) = subst P (sym e) (All-head P y ys all)
-All-member P (y ∷ ys) x all (inr h) = All-member P ys x (All-tail P y ys all) h
+use Rattle.rdf_terms.proofs.MadeLists.{each-from_All, All-from_each, In-get_or}
 
 bounded : (m n : ℕ) → (n < m → n < n) → m ≤ n
 bounded m n f = grind arith
@@ -33,12 +29,12 @@ bounded m n f = grind arith
 
 module _ (D : Dataset) (c : List ℕ) (v : IsValid D) where
   valid : (st : Statement) → In st D.statements → IsValidStatement D.nodes st
-  valid st h = All-member (IsValidStatement D.nodes) D.statements st v.valid h
+  valid st h = each-from_All (IsValidStatement D.nodes) D.statements st v.valid h
 
   are_lines : All IsLine (sorted (map (canonical_line (issued_names Canonical c)) D.statements))
   are_lines =
       let lines = map (canonical_line (issued_names Canonical c)) D.statements in
-      All-from_members IsLine (sorted lines)
+      All-from_each IsLine (sorted lines)
       (λ x there.
       let p = from_In-map (canonical_line (issued_names Canonical c)) D.statements x (In-Permutes x (Permutes-sym (sorted-permutes lines)) there) in
       subst IsLine (sym p.2) (IsLine-canonical_line (issued_names Canonical c) D.nodes (HasPlainNames-issued Canonical c D.nodes) p.0 (valid p.0 p.1)))
@@ -95,7 +91,7 @@ module _ (D E : Dataset) (c d : List ℕ) (v : IsValid D) (w : IsValid E) (lc : 
   place_there : (k : ℕ) → k < length c → k < length d
   place_there k h =
       let n = get_or c k 0 in
-      let small : get_or c k 0 < D.nodes = (lc.all n).0 (In-get_or c k h) in
+      let small : get_or c k 0 < D.nodes = (lc.all n).0 (In-get_or c k 0 h) in
       let used = v.used n small in
       let p = from_In-map (canonical_line (issued_names Canonical d)) E.statements _
       (In-Permutes _ lines_permute (In-map (canonical_line (issued_names Canonical c)) D.statements used.statement used.there)) in

@@ -4,10 +4,10 @@ use Rattle.std.specs.List.{flat_map}
 use Rattle.std.proofs.lemmas.Bool.{eqb-true, eqb-false, ne_eqb}
 use Rattle.std.proofs.lemmas.Bool.Decides.{nat_tests}
 use Rattle.std.proofs.lemmas.List.Concat.{flat_map-cons}
-use Rattle.std.proofs.lemmas.List.Elements.{All-cons, All-append}
+use Rattle.std.proofs.lemmas.List.Elements.{All-cons, All-append, All-nil}
 use Rattle.rdf_terms.specs.Lists.{Text}
 use Rattle.rdf_terms.specs.CanonicalForm.{escaped, hex_digit, is_written_by_number}
-use Rattle.canonical_writer.proofs.Splitting.{head_of, tail_of, All-none}
+use Rattle.canonical_writer.proofs.Splitting.{head_of, tail_of}
 
 -- ---- the three ways in which a byte is written
 
@@ -120,15 +120,15 @@ pub printable_byte : (c : ℕ) → 32 ≤ c → (t : Text) → All (λ c. 32 ≤
 printable_byte c e t h = All-cons (λ c. 32 ≤ c) c t e h
 
 printable : (c : ℕ) (w : Text) → Written c w → All (λ c. 32 ≤ c) w
-printable c w (by_letter e n m v) = printable_byte 92 (omega arith) (e ∷ []) (printable_byte e m [] (All-none _))
+printable c w (by_letter e n m v) = printable_byte 92 (omega arith) (e ∷ []) (printable_byte e m [] (All-nil _))
 printable c w (by_number k) =
     let low : Text = hex_digit (c % 16) ∷ [] in
     let high : Text = hex_digit (c / 16) ∷ low in
-    let lows : All (λ c. 32 ≤ c) low = printable_byte (hex_digit (c % 16)) (hex-printable (c % 16)) [] (All-none _) in
+    let lows : All (λ c. 32 ≤ c) low = printable_byte (hex_digit (c % 16)) (hex-printable (c % 16)) [] (All-nil _) in
     let highs : All (λ c. 32 ≤ c) high = printable_byte (hex_digit (c / 16)) (hex-printable (c / 16)) low lows in
     printable_byte 92 (omega arith) (117 ∷ 48 ∷ 48 ∷ high) (printable_byte 117 (omega arith) (48 ∷ 48 ∷ high) (printable_byte 48 (omega arith) (48 ∷ high) (printable_byte 48 (omega arith) high highs)))
-printable c w (as_it_stands b q n) = printable_byte c n [] (All-none _)
+printable c w (as_it_stands b q n) = printable_byte c n [] (All-nil _)
 
 pub string-printable : (xs : Text) → All (λ c. 32 ≤ c) (flat_map escaped xs)
-string-printable [] = All-none _
+string-printable [] = All-nil _
 string-printable (x ∷ xs) = rw (flat_map-cons escaped x xs) (All-append (λ c. 32 ≤ c) (escaped x) (flat_map escaped xs) (printable x (escaped x) (written x)) (string-printable xs))

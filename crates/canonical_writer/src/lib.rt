@@ -1,7 +1,7 @@
 //! Canonical N-Quads: the line of a quad under names for its blank nodes, and the text of several quads.
 #![tactic(auto)]
 
-pub use line::push_line;
+pub use line::{push_line, push_term};
 pub use lines::Lines;
 pub use list_names::ListNames;
 pub use names::{DegreeNames, Names, NumberNames, push_numbered};
@@ -14,8 +14,6 @@ mod line;
 mod lines;
 mod list_names;
 mod names;
-mod numeral;
-mod room;
 mod run_order;
 mod runs;
 mod sorted;

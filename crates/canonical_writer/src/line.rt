@@ -11,9 +11,7 @@ ghost use Rattle.canonical_writer.specs.Runs.{line_start, line_rest};
 
 use crate::escape::push_escaped;
 use crate::names::Names;
-use rdf_terms::{Literal, LiteralKind, NoMemory, Quad, Term, TermTable, TermText};
-
-const XSD_STRING: &str = "http://www.w3.org/2001/XMLSchema#string";
+use rdf_terms::{Literal, LiteralKind, NoMemory, Quad, Term, TermTable, TermText, xsd};
 
 /// Appends the canonical line of a quad. After an `Err` the bytes are as before.
 pub fn push_line<N: Names>(
@@ -168,8 +166,10 @@ fn push_place<N: Names>(
     Ok(())
 }
 
+/// Appends the term as it stands in a canonical line. After an `Err` the bytes begin with what they
+/// were.
 #[inline]
-fn push_term<N: Names>(out: &mut Vec<u8>, term: &Term, names: &N) -> Result<(), NoMemory>
+pub fn push_term<N: Names>(out: &mut Vec<u8>, term: &Term, names: &N) -> Result<(), NoMemory>
     requires { IsNamed (N.name names.now) term.now }
     ensures ok { OnOk result (out.new.items ≡ out.old.items ++ canonical_term (naming_of (N.name names.now)) term.now) }
     ensures front { StartsWith out.new.items out.old.items }
@@ -223,8 +223,8 @@ fn push_suffix(out: &mut Vec<u8>, kind: &LiteralKind) -> Result<(), NoMemory>
 }
 
 #[inline]
-pub(crate) fn is_string_type(iri: &TermText) -> bool
+fn is_string_type(iri: &TermText) -> bool
     ensures { result ≡ bytes_eq iri.now xsd_string }
 {
-    iri.as_str() == XSD_STRING
+    iri.as_str() == xsd::STRING
 }

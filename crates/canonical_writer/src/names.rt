@@ -6,7 +6,7 @@ ghost use Rattle.rdf_terms.specs.CanonicalForm.{name_or_nothing};
 ghost use Rattle.rdf_terms.specs.Numeral.{numeral};
 ghost use Rattle.canonical_writer.specs.Names.{degree_name, numbered_name};
 
-use crate::numeral::push_numeral;
+use itoa::Buffer;
 use rdf_terms::NoMemory;
 
 /// Names for blank nodes, without the `_:`. A node may have none.
@@ -53,8 +53,11 @@ fn append_numbered(out: &mut Vec<u8>, prefix: &[u8], number: u32) -> Result<(), 
     ensures ok { OnOk result (out.new.items ≡ out.old.items ++ (prefix.now ++ numeral number)) }
     ensures front { StartsWith out.new.items out.old.items }
 {
+    let mut buffer = Buffer::new();
+    let digits = buffer.format(number).as_bytes();
     out.extend_from_slice(prefix)?;
-    push_numeral(out, number)
+    out.extend_from_slice(digits)?;
+    Ok(())
 }
 
 /// Appends a prefix and the numeral of a number. After an `Err` the bytes are as before.

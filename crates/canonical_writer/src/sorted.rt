@@ -12,7 +12,6 @@ ghost use Rattle.canonical_writer.specs.Runs.{lines_of, IsRun, KeysAscend};
 
 use crate::lines::Lines;
 use crate::names::Names;
-use crate::room::make_room;
 use crate::runs::{Run, cut_at_subjects, sorted_runs};
 use rdf_terms::{Bytes, NoMemory, Quad, TermTable};
 use std::alloc::Global;
@@ -47,6 +46,7 @@ pub fn write_sorted_in<N: Names>(
     let mut keys = Lines::new(alloc);
     let stretches = cut_at_subjects(alloc, terms, quads, names, &mut keys)?;
     let runs = sorted_runs(alloc, &keys, stretches.as_slice())?;
+    drop(stretches);
     write_runs(alloc, memory, terms, runs.as_slice(), names)
 }
 
@@ -67,8 +67,7 @@ fn write_runs<N: Names>(
     text.clear();
     let mut group = Lines::new(alloc);
     let mut front = first_key(runs);
-    for (place, run) in runs.iter().enumerate() {
-        make_room(&mut text, terms, runs, place)?;
+    for run in runs {
         if !begins_with(run.key, front) {
             group.append_sorted(alloc, &mut text)?;
             group.clear();

@@ -9,6 +9,7 @@ use Rattle.rdf_terms.specs.Lists.{In, AreDistinct, Permutes, numbers_below}
 use Rattle.rdf_terms.specs.Terms.{Statement, IsValidStatement, IsValidTerm}
 use Rattle.rdf_terms.specs.Dataset.{IsUsed, mentions, is_node, is_named_by}
 use Rattle.rdf_terms.specs.Document.{Document, IsDocument, IsInRange, statement, statements, term_at, graph_name_at}
+use Rattle.rdf_terms.specs.Lexicon.{Lexicon}
 use Rattle.rdf_terms.specs.declared.term.Term.{Term}
 use Rattle.rdf_terms.specs.declared.term.Term.TheVariants.{Iri, Blank, Literal}
 use Rattle.rdf_terms.specs.declared.term.Quad.{Quad}
@@ -16,7 +17,6 @@ use Rattle.rdf_terms.specs.declared.term.Label.{Label}
 use Rattle.rdf_terms.proofs.Membership.{In-at, place_in, In-map, from_In-map}
 use Rattle.rdf_terms.proofs.Permutations.{Permutes-from_IsPermutation, Permutes-map, AreDistinct-Permutes, In-Permutes}
 use Rattle.rdf_terms.proofs.Adding.{statement_injective}
-use Rattle.rdf_terms.proofs.Ranks.{In-filter}
 use Rattle.dataset_index.specs.declared.mention.Mention.{Mention}
 use Rattle.dataset_index.specs.ByKey.{of_key}
 use Rattle.dataset_index.specs.Mentions.{mentioned_by, noted_places, places_of, NotesPlaces, places_before}
@@ -25,16 +25,15 @@ use Rattle.dataset_index.specs.HeldNodes.{AreNodesBelow}
 use Rattle.dataset_index.specs.Indexed.{IsIndexed, with_quads}
 use Rattle.dataset_index.specs.QuadOrder.{Ascend}
 use Rattle.dataset_index.proofs.Keys.{In-of_key}
-use Rattle.dataset_index.proofs.Numbers.{length-numbers_below, slice_get-map_numbers_below, map-numbers_below}
+use Rattle.dataset_index.proofs.Numbers.{slice_get-map_numbers_below}
+use Rattle.rdf_terms.proofs.MadeLists.{from_In-filter, each-from_All}
+use Rattle.std.proofs.lemmas.Bool.{or_cases}
+use Rattle.rdf_terms.proofs.Finishing.{mentioned_low}
+use Rattle.rdf_terms.proofs.Ranks.{length-numbers_below, map-numbers_below}
 
 pub AreDistinct-from_map : {A B : Type 0} (f : A → B) (xs : List A) → AreDistinct (map f xs) → AreDistinct xs
 AreDistinct-from_map f [] h = tt
 AreDistinct-from_map f (x ∷ xs) h = (λ i. h.0 (In-map f xs x i), AreDistinct-from_map f xs h.1)
-
-All-In : {A : Type 0} (P : A → Type 0) (xs : List A) (x : A) → All P xs → In x xs → P x
-All-In P xs x all h =
-    let p = place_in xs x h in
-    subst P (get_or_from_slice_get xs p.0 x x p.1) (all p.0 x (slice_get_within xs p.0 x p.1))
 
 -- ---- another order
 
@@ -73,15 +72,18 @@ module _ (d : Document) (quads sorted : List Quad) (given : quads ≡ d.quads) (
   moved : IsPermutation d.quads sorted
   moved = subst (λ qs. IsPermutation qs sorted) given p
 
-  pub IsDocument-with_quads : IsDocument d → IsDocument (with_quads d sorted)
-  IsDocument-with_quads = IsDocument-ordered d.terms d.quads sorted d.labels moved
+  module _ (l : Lexicon) (same : l ≡ record { terms = d.terms; labels = d.labels }) where
+    pub IsDocument-with_quads : IsDocument d → IsDocument (with_quads l sorted)
+    IsDocument-with_quads is = subst (λ x. IsDocument (with_quads x sorted)) (sym same) (IsDocument-ordered d.terms d.quads sorted d.labels moved is)
 
-  pub quads_permuted : {E : Type 0} (r : Result Document E) → IfOk r (λ x. x ≡ with_quads d sorted) → IfOk r (λ x. Permutes d.quads x.quads)
-  quads_permuted r = IfOk-weaker r _ _ (λ x e. subst (λ w. Permutes d.quads w.quads) (sym e) (Permutes-from_IsPermutation d.quads sorted moved))
+    pub quads_permuted : {E : Type 0} (r : Result Document E) → IfOk r (λ x. x ≡ with_quads l sorted) → IfOk r (λ x. Permutes d.quads x.quads)
+    quads_permuted r = IfOk-weaker r _ _ (λ x e. subst (λ w. Permutes d.quads w.quads) (sym e) (Permutes-from_IsPermutation d.quads sorted moved))
 
-  pub statements_permuted : {E : Type 0} (r : Result Document E) → IfOk r (λ x. x ≡ with_quads d sorted) → IfOk r (λ x. Permutes (statements d) (statements x))
-  statements_permuted r =
-      IfOk-weaker r _ _ (λ x e. subst (λ w. Permutes (statements d) (statements w)) (sym e) (statements_permute d.terms d.quads sorted d.labels moved))
+    pub statements_permuted : {E : Type 0} (r : Result Document E) → IfOk r (λ x. x ≡ with_quads l sorted) → IfOk r (λ x. Permutes (statements d) (statements x))
+    statements_permuted r =
+        IfOk-weaker r _ _
+        (λ x e.
+        subst (λ w. Permutes (statements d) (statements w)) (sym (e ∙ ap (λ v. with_quads v sorted) same)) (statements_permute d.terms d.quads sorted d.labels moved))
 
 -- ---- nodes and their terms
 
@@ -90,33 +92,11 @@ is_blank n (Iri t) h = absurd (true≢false (sym h))
 is_blank n (Blank m) h = ap Blank (eqb-true m n h)
 is_blank n (Literal l) h = absurd (true≢false (sym h))
 
-one_of : (a b : Bool) → (a || b) ≡ true → (a ≡ true) ⊎ (b ≡ true)
-one_of true b h = inl refl
-one_of false b h = inr h
-
-below : (nodes n : ℕ) (t : Term) → IsValidTerm nodes t → t ≡ Blank n → n < nodes
-below nodes n t v e = subst (IsValidTerm nodes) e v
-
-mentioned_below : (nodes n : ℕ) (st : Statement) → IsValidStatement nodes st → mentions n st ≡ true → n < nodes
-mentioned_below nodes n st v h = by (one_of (is_node n st.subject) (is_node n st.object || is_named_by n st.graph_name) h)
-  where
-    named : (g : Option Term) → IfSome g (IsValidTerm nodes) → is_named_by n g ≡ true → n < nodes
-    named None v h = absurd (true≢false (sym h))
-    named (Some t) v h = below nodes n t v (is_blank n t h)
-
-    more : (is_node n st.object ≡ true) ⊎ (is_named_by n st.graph_name ≡ true) → n < nodes
-    more (inl h) = below nodes n st.object v.object (is_blank n st.object h)
-    more (inr h) = named st.graph_name v.graph_name h
-
-    by : (is_node n st.subject ≡ true) ⊎ ((is_node n st.object || is_named_by n st.graph_name) ≡ true) → n < nodes
-    by (inl h) = below nodes n st.subject v.subject (is_blank n st.subject h)
-    by (inr h) = more (one_of (is_node n st.object) (is_named_by n st.graph_name) h)
-
 -- a node of the table is below the number of nodes
 In_below : (d : Document) → IsDocument d → (n : ℕ) → In (Blank n) d.terms → n < length d.labels
 In_below d is n there =
     let u = is.draft.term_used n there in
-    mentioned_below (length d.labels) n u.statement (All-In (IsValidStatement (length d.labels)) (statements d) u.statement is.draft.valid u.there) u.mentioned
+    mentioned_low (length d.labels) n u.statement (each-from_All (IsValidStatement (length d.labels)) (statements d) u.statement is.draft.valid u.there) u.mentioned
 
 pub node_below : (d : Document) → IsDocument d → (n k : ℕ) → slice_get d.terms k ≡ Some (Blank n) → n < length d.labels
 node_below d is n k at = In_below d is n (In-at d.terms k (Blank n) at)
@@ -128,14 +108,14 @@ AreNodesBelow-terms d is n there = let l = In_below d is n there in let b = is.d
 mentioned_at : (d : Document) → IsDocument d → (n k : ℕ) (o : Option Statement) → slice_get (statements d) k ≡ o → mentioned_by n o ≡ true → n < length d.labels
 mentioned_at d is n k None at h = absurd (true≢false (sym h))
 mentioned_at d is n k (Some st) at h =
-    mentioned_below (length d.labels) n st (All-In (IsValidStatement (length d.labels)) (statements d) st is.draft.valid (In-at (statements d) k st at)) h
+    mentioned_low (length d.labels) n st (each-from_All (IsValidStatement (length d.labels)) (statements d) st is.draft.valid (In-at (statements d) k st at)) h
 
 pub noted_below : (d : Document) (notes : List Mention) (end : ℕ) → IsDocument d → NotesPlaces (statements d) notes end → All (λ m. m.node < length d.labels) notes
 noted_below d notes end is noted i e l =
     let m = get_or notes i e in
     let own = In-of_key (λ m. m.node) m notes (In-at notes i m (slice_get-get_or notes i e l)) in
     let there = subst (In m.place) (noted m.node) (In-map (λ m. m.place) (of_key (λ m. m.node) m.node notes) m own) in
-    mentioned_at d is m.node m.place (slice_get (statements d) m.place) refl (In-filter (λ k. mentioned_by m.node (slice_get (statements d) k)) (numbers_below end) m.place there).1
+    mentioned_at d is m.node m.place (slice_get (statements d) m.place) refl (from_In-filter (λ k. mentioned_by m.node (slice_get (statements d) k)) m.place (numbers_below end) there).1
 
 -- the number of the term of a node that a quad mentions
 abbrev Numbered : List Term → ℕ → Type 0
@@ -145,7 +125,7 @@ numbered : (terms : List Term) (n k : ℕ) → k < length terms → is_node n (t
 numbered terms n k l h = (k, l, slice_get-get_or terms k (Blank 0) l ∙ ap Some (is_blank n (term_at terms k) h))
 
 mentioned_numbered : (terms : List Term) (n : ℕ) (q : Quad) → IsInRange terms q → mentions n (statement terms q) ≡ true → Numbered terms n
-mentioned_numbered terms n q r h = by (one_of (is_node n (term_at terms q.s)) (is_node n (term_at terms q.o) || is_named_by n (graph_name_at terms q.g)) h)
+mentioned_numbered terms n q r h = by (or_cases (is_node n (term_at terms q.s)) (is_node n (term_at terms q.o) || is_named_by n (graph_name_at terms q.g)) h)
   where
     named : (g : Option ℕ) → IfSome g (λ g. g < length terms) → is_named_by n (graph_name_at terms g) ≡ true → Numbered terms n
     named None r h = absurd (true≢false (sym h))
@@ -157,13 +137,13 @@ mentioned_numbered terms n q r h = by (one_of (is_node n (term_at terms q.s)) (i
 
     by : (is_node n (term_at terms q.s) ≡ true) ⊎ ((is_node n (term_at terms q.o) || is_named_by n (graph_name_at terms q.g)) ≡ true) → Numbered terms n
     by (inl h) = numbered terms n q.s r.s h
-    by (inr h) = more (one_of (is_node n (term_at terms q.o)) (is_named_by n (graph_name_at terms q.g)) h)
+    by (inr h) = more (or_cases (is_node n (term_at terms q.o)) (is_named_by n (graph_name_at terms q.g)) h)
 
 node_numbered : (d : Document) → IsDocument d → (n : ℕ) → n < length d.labels → Numbered d.terms n
 node_numbered d is n l =
     let u = is.used n l in
     let q = from_In-map (statement d.terms) d.quads u.statement u.there in
-    mentioned_numbered d.terms n q.0 (All-In (IsInRange d.terms) d.quads q.0 is.draft.in_range q.1) (ap (mentions n) (sym q.2) ∙ u.mentioned)
+    mentioned_numbered d.terms n q.0 (each-from_All (IsInRange d.terms) d.quads q.0 is.draft.in_range q.1) (ap (mentions n) (sym q.2) ∙ u.mentioned)
 
 -- ---- the whole
 
@@ -209,7 +189,7 @@ index_at d numbers index i n places l h = same (sym h ∙ ap (λ x. slice_get x 
 pub In-statement : (d : Document) (q : Quad) → AreDistinct d.terms → IsDocument d → IsInRange d.terms q → In (statement d.terms q) (statements d) → In q d.quads
 In-statement d q distinct is r h =
     let f = from_In-map (statement d.terms) d.quads (statement d.terms q) h in
-    subst (λ x. In x d.quads) (sym (statement_injective d.terms distinct q f.0 r (All-In (IsInRange d.terms) d.quads f.0 is.draft.in_range f.1) f.2)) f.1
+    subst (λ x. In x d.quads) (sym (statement_injective d.terms distinct q f.0 r (each-from_All (IsInRange d.terms) d.quads f.0 is.draft.in_range f.1) f.2)) f.1
 
 pub has_statement : (d : Document) (q : Quad) (b : Bool) → AreDistinct d.terms → IsDocument d → IsTrue b ↔ In q d.quads → IsInRange d.terms q → IsTrue b ↔ In (statement d.terms q) (statements d)
 has_statement d q b distinct is has r = (λ t. In-map (statement d.terms) d.quads q (has.0 t), λ h. has.1 (In-statement d q distinct is r h))

@@ -13,6 +13,7 @@ use Rattle.std.proofs.lemmas.List.Sorted.{searchable_from_sorted}
 use Rattle.rdf_terms.specs.Lists.{In}
 use Rattle.rdf_terms.specs.declared.term.Quad.{Quad}
 use Rattle.dataset_index.specs.QuadOrder.{quad_cmp, Ascend}
+use Rattle.rdf_terms.proofs.Searching.{found_in}
 
 total : IsTotalOrder quad_cmp
 total =
@@ -43,39 +44,6 @@ same_quad a b h =
     let g : a.g ≡ b.g = same_name a.g b.g z.1 in
     λ i. record { s = s i; p = p i; o = o i; g = g i }
 
-In-get_or : (xs : List Quad) (k : ℕ) (d : Quad) → k < length xs → In (get_or xs k d) xs
-In-get_or [] k d h = absurd (omega arith)
-In-get_or (x ∷ xs) zero d h = inl refl
-In-get_or (x ∷ xs) (suc k) d h = inr (In-get_or xs k d (omega arith))
-
-place_in : (x : Quad) (xs : List Quad) (d : Quad) → In x xs → (k : ℕ) × (k < length xs) × (get_or xs k d ≡ x)
-place_in x [] d h = absurd h
-place_in x (y ∷ xs) d (inl e) = (0, omega arith, sym e)
-place_in x (y ∷ xs) d (inr h) = let r = place_in x xs d h in (suc r.0, omega (arith, r.1), r.2)
-
-order : (k i : ℕ) → (k < i) ⊎ (i ≤ k)
-order k i = grind arith
-
 pub found : (xs : List Quad) (x : Quad) (r : Result ℕ ℕ) → Ascend xs → IsSearchInRange r (length xs) → IsBinarySearchResult (λ y. quad_cmp y x) xs r
     → (b : Bool) → b ≡ is_ok r → IsTrue b ↔ In x xs
-found xs x (Ok i) up bound looked b e = (λ _. subst (λ y. In y xs) (same_quad (get_or xs i x) x (looked x)) (In-get_or xs i x bound), λ _. e)
-found xs x (Err i) up bound looked b e = (λ t. absurd (true≢false (sym t ∙ e)), λ h. absurd (gone (place_in x xs x h)))
-  where
-    point : IsPartitionPoint (λ y. quad_cmp y x ≡ Less) (λ y. quad_cmp y x ≡ Greater) xs i
-    point = looked (searchable_from_sorted total (λ q. q) xs x up)
-
-    gone : (k : ℕ) × (k < length xs) × (get_or xs k x ≡ x) → ⊥
-    gone p = by (order p.0 i)
-      where
-        equal : quad_cmp (get_or xs p.0 x) x ≡ Equal
-        equal = ap (λ y. quad_cmp y x) p.2 ∙ tied_itself total x
-
-        by : (p.0 < i) ⊎ (i ≤ p.0) → ⊥
-        by (inl l) = not_less (sym (point.0 p.0 x (omega arith) l) ∙ equal)
-          where
-            not_less : Less ≡ Equal → ⊥
-            not_less h = cc
-        by (inr l) = not_greater (sym (point.1 p.0 x l p.1) ∙ equal)
-          where
-            not_greater : Greater ≡ Equal → ⊥
-            not_greater h = cc
+found = found_in total same_quad

@@ -2,14 +2,15 @@
 use Rattle.std.specs.Prelude.{◌≡◌, ℕ, ◌<◌, List, Some, map, length, slice_get, slice_index}
 use Rattle.rdf_terms.specs.Lists.{AreDistinct, numbers_below}
 use Rattle.rdf_terms.specs.Document.{Document, IsDocument, statements}
+use Rattle.rdf_terms.specs.Lexicon.{Lexicon}
 use Rattle.rdf_terms.specs.declared.term.Quad.{Quad}
 use Rattle.rdf_terms.specs.declared.term.Term.TheVariants.{Blank}
 use Rattle.dataset_index.specs.QuadOrder.{Ascend}
 use Rattle.dataset_index.specs.Mentions.{places_of}
 
--- the document with its quads in another order
-abbrev pub with_quads : Document → List Quad → Document
-with_quads d quads = record { terms = d.terms; quads = quads; labels = d.labels }
+-- the document of these terms and labels with these quads
+abbrev pub with_quads : Lexicon → List Quad → Document
+with_quads l quads = record { terms = l.terms; quads = quads; labels = l.labels }
 
 -- the numbers hold the number of each node's term, and the index holds the places of each node's quads
 pub record IsIndexed (d : Document) (numbers : List ℕ) (index : List (List ℕ)) : Type 0 where

@@ -14,7 +14,7 @@ use crate::mentions::note_all;
 use crate::node_index::NodeIndex;
 use crate::node_terms::node_terms;
 use crate::term_nodes::TermNodes;
-use rdf_terms::{Label, NoMemory, Parsed, Quad, TermTable};
+use rdf_terms::{Label, Lexicon, NoMemory, Parsed, Quad, TermTable};
 use std::alloc::Global;
 use std::marker::Model;
 
@@ -22,7 +22,7 @@ use std::marker::Model;
 /// its nodes. Nodes are numbered from 0.
 #[derive(Drop)]
 pub struct Dataset {
-    parsed: Parsed,
+    lexicon: Lexicon,
     quads: Vec<Quad>,
     node_terms: Vec<u32>,
     index: NodeIndex,
@@ -34,9 +34,9 @@ impl Model for Dataset {
 
     ghost Value = { Document };
 
-    ghost view = { λ d. record { terms = d.parsed.terms; quads = d.quads.items; labels = d.parsed.labels } };
+    ghost view = { λ d. record { terms = d.lexicon.terms; quads = d.quads.items; labels = d.lexicon.labels } };
 
-    ghost invariant = { λ d. IsIndexed (record { terms = d.parsed.terms; quads = d.quads.items; labels = d.parsed.labels }) d.node_terms.items d.index };
+    ghost invariant = { λ d. IsIndexed (record { terms = d.lexicon.terms; quads = d.quads.items; labels = d.lexicon.labels }) d.node_terms.items d.index };
 }
 
 impl Dataset {
@@ -49,44 +49,46 @@ impl Dataset {
     {
         let terms = parsed.terms().len();
         let quads = in_order(alloc, parsed.quads(), terms as usize)?;
-        if parsed.labels().is_empty() {
-            Self::without_nodes(alloc, parsed, quads)
+        // From here on the quads stand in memory once, in order.
+        let lexicon = parsed.into_lexicon();
+        if lexicon.labels().is_empty() {
+            Self::without_nodes(alloc, lexicon, quads)
         } else {
-            Self::with_nodes(alloc, parsed, quads)
+            Self::with_nodes(alloc, lexicon, quads)
         }
     }
 
     // No term is a node, so neither the terms nor the quads are looked at.
-    fn without_nodes(alloc: Global, parsed: Parsed, quads: Vec<Quad>) -> Result<Self, NoMemory>
-        requires none { parsed.labels ≡ [] }
-        requires distinct { AreDistinct parsed.terms }
-        requires document { IsDocument (with_quads parsed quads.items) }
+    fn without_nodes(alloc: Global, lexicon: Lexicon, quads: Vec<Quad>) -> Result<Self, NoMemory>
+        requires none { lexicon.labels ≡ [] }
+        requires distinct { AreDistinct lexicon.terms }
+        requires document { IsDocument (with_quads lexicon quads.items) }
         requires ascend { Ascend quads.items }
-        ensures { IfOk result (λ d. d ≡ with_quads parsed quads.items) }
+        ensures { IfOk result (λ d. d ≡ with_quads lexicon quads.items) }
     {
         let index = NodeIndex::build(alloc, 0, &[])?;
         Ok(Dataset {
-            parsed,
+            lexicon,
             quads,
             node_terms: Vec::new(alloc),
             index,
         })
     }
 
-    fn with_nodes(alloc: Global, parsed: Parsed, quads: Vec<Quad>) -> Result<Self, NoMemory>
-        requires distinct { AreDistinct parsed.terms }
-        requires document { IsDocument (with_quads parsed quads.items) }
+    fn with_nodes(alloc: Global, lexicon: Lexicon, quads: Vec<Quad>) -> Result<Self, NoMemory>
+        requires distinct { AreDistinct lexicon.terms }
+        requires document { IsDocument (with_quads lexicon quads.items) }
         requires ascend { Ascend quads.items }
-        ensures { IfOk result (λ d. d ≡ with_quads parsed quads.items) }
+        ensures { IfOk result (λ d. d ≡ with_quads lexicon quads.items) }
     {
-        let nodes = parsed.labels().len();
-        let term_nodes = TermNodes::of(alloc, parsed.terms())?;
+        let nodes = lexicon.labels().len();
+        let term_nodes = TermNodes::of(alloc, lexicon.terms())?;
         let node_terms = node_terms(alloc, &term_nodes, nodes)?;
         let notes = note_all(alloc, &term_nodes, quads.as_slice())?;
         drop(term_nodes);
         let index = NodeIndex::build(alloc, nodes as u32, notes.as_slice())?;
         Ok(Dataset {
-            parsed,
+            lexicon,
             quads,
             node_terms,
             index,
@@ -99,7 +101,7 @@ impl Dataset {
         ensures valid { IsValid (dataset self.now) }
         ensures document { IsDocument self.now }
     {
-        self.parsed.labels().len() as u32
+        self.lexicon.labels().len() as u32
     }
 
     /// All quads in ascending order, each once.
@@ -135,7 +137,7 @@ impl Dataset {
         ensures label { slice_get self.now.labels node ≡ Some result.now }
         ensures distinct { AreDistinct self.now.labels }
     {
-        &self.parsed.labels()[node as usize]
+        &self.lexicon.labels()[node as usize]
     }
 
     /// The number of the node's term.
@@ -151,6 +153,6 @@ impl Dataset {
         ensures terms { result.now ≡ self.now.terms }
         ensures distinct { AreDistinct self.now.terms }
     {
-        self.parsed.terms()
+        self.lexicon.terms()
     }
 }

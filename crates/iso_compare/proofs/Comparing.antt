@@ -16,8 +16,7 @@ use Rattle.canon_model.specs.Hashing.{Hashing}
 use Rattle.canon_model.specs.JoinedTies.{IsSettled}
 use Rattle.canon_model.specs.Output.{chosen_form}
 use Rattle.canon_model.proofs.CanonicalLists.{canonical_lists_are_complete}
-use Rattle.canon_model.proofs.Maps.{map-map, map_identity}
-use Rattle.canon_model.proofs.StartNodes.{from_In-numbers_below, In-numbers_below}
+use Rattle.canon_model.proofs.Maps.{map_identity}
 use Rattle.canon_model.proofs.Equivariance.{back_relabelling, carries_back}
 use Rattle.ndegree_hash.specs.declared.tie.Tie.{Tie}
 use Rattle.canon_core.specs.Canonical.{IsCanon, IsFirstUnsettled}
@@ -28,6 +27,8 @@ use Rattle.canon_core.proofs.TwoOutputs.{shared_output}
 use Rattle.iso_compare.specs.Comparison.{AreApart, AreDifferent, AreSame, AreUndecided, IsVerdict}
 use Rattle.iso_compare.specs.Pairs.{first_of, pair_cmp, second_of}
 use Rattle.iso_compare.specs.declared.verdict.Verdict.{Verdict}
+use Rattle.rdf_terms.proofs.MadeLists.{map-map}
+use Rattle.rdf_terms.proofs.Ranks.{from_In-numbers_below, In-numbers_below}
 
 pair_cmp_total : IsTotalOrder pair_cmp
 pair_cmp_total = then_total (on_total first_of nat_cmp_total) (on_total second_of nat_cmp_total)

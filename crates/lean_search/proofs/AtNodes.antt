@@ -12,7 +12,7 @@ use Rattle.rdf_terms.specs.declared.term.Term.{Term}
 use Rattle.rdf_terms.specs.declared.term.Term.TheVariants.{Iri, Blank, Literal}
 use Rattle.rdf_terms.specs.declared.term.Quad.{Quad}
 use Rattle.rdf_terms.proofs.Membership.{In-map, from_In-map, In-at, In-append_left, In-append_right}
-use Rattle.rdf_terms.proofs.Ranks.{In-filter, In-numbers_below}
+use Rattle.rdf_terms.proofs.Ranks.{from_In-numbers_below}
 use Rattle.dataset_index.specs.Mentions.{mentioned_by, node_in, places_of}
 use Rattle.dataset_index.proofs.Building.{node_below}
 use Rattle.graph_model.specs.Components.{ShareTriple}
@@ -23,6 +23,7 @@ use Rattle.map_search.proofs.Bridging.{is_node-blank}
 use Rattle.map_search.proofs.Indexing.{In-kept, kept-In}
 use Rattle.lean_search.specs.Image.{IsOneGraph, left, quads_left}
 use Rattle.lean_search.specs.Walk.{IsNear}
+use Rattle.rdf_terms.proofs.MadeLists.{from_In-filter}
 
 -- ---- lists
 
@@ -56,9 +57,9 @@ pub record IsLeftAt (d : Document) (live : List Bool) (n k : ℕ) : Type 0 where
 
 pub place_left : (d : Document) (live : List Bool) (n k : ℕ) → In k (filter (mark_at live) (places_of (statements d) n)) → IsLeftAt d live n k
 place_left d live n k i =
-    let p = In-filter (mark_at live) (places_of (statements d) n) k i in
-    let q = In-filter (λ k. mentioned_by n (slice_get (statements d) k)) (numbers_below (length (statements d))) k p.0 in
-    let l : k < length (statements d) = In-numbers_below (length (statements d)) k q.0 in
+    let p = from_In-filter (mark_at live) k (places_of (statements d) n) i in
+    let q = from_In-filter (λ k. mentioned_by n (slice_get (statements d) k)) k (numbers_below (length (statements d))) p.0 in
+    let l : k < length (statements d) = from_In-numbers_below (length (statements d)) k q.0 in
     let m : length (statements d) ≡ length d.quads = length-map d.quads (statement d.terms) in
     let w : k < length d.quads = omega arith in
     record { within = w; is_left = p.1; mentioned = ap (mentioned_by n) (sym (at_place d k w)) ∙ q.1 }
@@ -72,8 +73,8 @@ left_place d live n k at =
 
 pub place_of_node : (d : Document) (n k : ℕ) → In k (places_of (statements d) n) → (k < length d.quads) × (mentions n (statement d.terms (quad_at d.quads k)) ≡ true)
 place_of_node d n k i =
-    let q = In-filter (λ k. mentioned_by n (slice_get (statements d) k)) (numbers_below (length (statements d))) k i in
-    let l : k < length (statements d) = In-numbers_below (length (statements d)) k q.0 in
+    let q = from_In-filter (λ k. mentioned_by n (slice_get (statements d) k)) k (numbers_below (length (statements d))) i in
+    let l : k < length (statements d) = from_In-numbers_below (length (statements d)) k q.0 in
     let m : length (statements d) ≡ length d.quads = length-map d.quads (statement d.terms) in
     let w : k < length d.quads = omega arith in
     (w, ap (mentioned_by n) (sym (at_place d k w)) ∙ q.1)
@@ -197,7 +198,7 @@ any_left d live n = (to, from)
     from : IsUsed (left d live) n → list_any (mark_at live) (places_of (statements d) n) ≡ true
     from u =
         let p = left_used d live n u in
-        let i = In-filter (mark_at live) (places_of (statements d) n) p.0 (left_place d live n p.0 p.1) in
+        let i = from_In-filter (mark_at live) p.0 (places_of (statements d) n) (left_place d live n p.0 p.1) in
         In-any (mark_at live) (places_of (statements d) n) p.0 i.0 i.1
 
 -- a node of a term is one of the document

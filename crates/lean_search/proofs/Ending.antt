@@ -17,7 +17,6 @@ use Rattle.rdf_terms.specs.Document.{Document, IsDocument, IsInRange, statement,
 use Rattle.rdf_terms.specs.declared.term.Term.{Term}
 use Rattle.rdf_terms.specs.declared.term.Term.TheVariants.{Iri, Blank, Literal}
 use Rattle.rdf_terms.specs.declared.term.Quad.{Quad}
-use Rattle.rdf_terms.proofs.Finishing.{All-from_each, each-from_All, map-agree}
 use Rattle.rdf_terms.proofs.Membership.{In-map, from_In-map}
 use Rattle.dataset_index.specs.QuadOrder.{quad_cmp, Ascend}
 use Rattle.graph_model.specs.Graphs.{mapped, mapped_triple, IsGraph, IsImage, IsLean, IsReached}
@@ -37,6 +36,7 @@ use Rattle.lean_search.specs.declared.form.LeanForm.{LeanForm}
 use Rattle.lean_search.proofs.AtNodes.{statement_within}
 use Rattle.lean_search.proofs.Walking.{In-take-split}
 use Rattle.lean_search.proofs.Placing.{In-take-less, In-take-last}
+use Rattle.rdf_terms.proofs.MadeLists.{All-from_each, each-from_All, map-agree}
 
 -- ---- nodes that are marked
 
@@ -176,6 +176,7 @@ module _ (d : Document) (one : IsOneGraph d) (s : State) (lean : IsLeanState d s
     count = by_steps.count;
     in_range = All-from_get_or (λ n. n < length d.terms) form.map 0 (λ n l. image_within n (subst (λ k. n < k) by_steps.count l));
     ascend = ascend;
+    within = λ q i. In-kept-quads q d.quads s.live (subst (In q) quads_are i);
     shrunk = subst (λ qs. IsShrunk (statements d) (map_by d.terms form.map) (map (statement d.terms) qs)) (sym quads_are) (record {
       endomorphism = λ st i. subst (λ x. In x (statements d)) (same_triple st i) (lean.shrunk.endomorphism st i);
       is_image = record {

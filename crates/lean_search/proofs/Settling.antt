@@ -11,7 +11,6 @@ use Rattle.rdf_terms.specs.declared.term.Term.{Term}
 use Rattle.rdf_terms.specs.declared.term.Term.TheVariants.{Iri, Blank, Literal}
 use Rattle.rdf_terms.specs.declared.term.Quad.{Quad}
 use Rattle.rdf_terms.proofs.Membership.{In-map, from_In-map}
-use Rattle.rdf_terms.proofs.Finishing.{All-from_each, AreDistinct-map}
 use Rattle.dataset_index.proofs.Building.{AreDistinct-from_map}
 use Rattle.graph_model.specs.Graphs.{mapped, composed}
 use Rattle.graph_model.specs.Components.{IsClosed, IsComponentWalk, IsMapOf, IsTight}
@@ -38,6 +37,7 @@ use Rattle.lean_search.proofs.Composing.{agrees_composed}
 use Rattle.lean_search.proofs.Outside.{search_begins, search_shrinks, search_settles, search_goes_on, search_ends}
 use Rattle.lean_search.proofs.Shrinking.{fewer_left, is_image}
 use Rattle.lean_search.proofs.Walks.{IsMapOf-same, IsTight-same, walk_once, walk_used, walk_start, walk_closed, walk_began}
+use Rattle.rdf_terms.proofs.MadeLists.{All-from_each, AreDistinct-map}
 
 -- ---- the numbers of a walk's terms
 

@@ -11,7 +11,6 @@ use Rattle.rdf_terms.specs.declared.term.Term.TheVariants.{Blank}
 use Rattle.rdf_terms.specs.declared.term.Quad.{Quad}
 use Rattle.rdf_terms.proofs.Membership.{In-map, from_In-map, one_place}
 use Rattle.rdf_terms.proofs.Adding.{statement_injective}
-use Rattle.rdf_terms.proofs.Finishing.{AreDistinct-map}
 use Rattle.graph_model.specs.Graphs.{mapped_triple, CarriesInto, IsImage, IsReached}
 use Rattle.graph_model.specs.Laws.{IsShrunk}
 use Rattle.graph_model.proofs.Closed.{decide_in}
@@ -26,6 +25,7 @@ use Rattle.map_search.proofs.Indexing.{In-kept, kept-In}
 use Rattle.lean_search.specs.Image.{IsOneGraph, AreTermsOf, IsPlaceOfWalk, IsReachedFrom, LeavesReached, left, quads_left}
 use Rattle.lean_search.specs.Searched.{count_left}
 use Rattle.lean_search.proofs.AtNodes.{In-left, In-quad_at, HasPlace, has_place, blank-is_node}
+use Rattle.rdf_terms.proofs.MadeLists.{AreDistinct-map}
 
 -- ---- lists
 

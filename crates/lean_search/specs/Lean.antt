@@ -26,6 +26,7 @@ pub record IsLeanForm (d : Document) (form : LeanForm) : Type 0 where
   pub count : length form.map ≡ length d.labels
   pub in_range : All (λ n. n < length d.terms) form.map
   pub ascend : Ascend form.quads
+  pub within : (q : Quad) → In q form.quads → In q d.quads
   pub shrunk : IsShrunk (statements d) (map_by d.terms form.map) (triples_of d form.quads)
   pub lean : IsLean (triples_of d form.quads)
 

@@ -12,7 +12,6 @@ use Rattle.rdf_terms.specs.declared.term.Term.TheVariants.{Iri, Blank, Literal}
 use Rattle.rdf_terms.specs.declared.term.Quad.{Quad}
 use Rattle.rdf_terms.proofs.Membership.{In-map, from_In-map, In-at, In-take, AreDistinct-take, place_in, one_place}
 use Rattle.rdf_terms.proofs.Adding.{statement_injective}
-use Rattle.rdf_terms.proofs.Finishing.{All-from_each, each-from_All, AreDistinct-map, map-agree, map-map}
 use Rattle.graph_model.specs.Graphs.{mapped, mapped_triple, IsReached}
 use Rattle.graph_model.specs.Components.{IsMapOf, IsTight, Touches, IsTripleOf}
 use Rattle.graph_model.specs.Counts.{IsEnd, MentionsOnly, IsPartialMap, HasMoreMaps}
@@ -24,6 +23,7 @@ use Rattle.map_search.specs.Numbers.{AreNumbers, Agrees, IsSaidBy, MeansByTerms}
 use Rattle.map_search.specs.declared.search.Ending.{Ending}
 use Rattle.map_search.specs.declared.search.Ending.TheVariants.{Found, Nothing, PastLimit}
 use Rattle.map_search.proofs.Images.{map_of-kept, map_of-same}
+use Rattle.rdf_terms.proofs.MadeLists.{All-from_each, each-from_All, AreDistinct-map, map-agree, map-map}
 
 -- ---- the number of a node
 

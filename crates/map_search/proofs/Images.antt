@@ -6,7 +6,6 @@ use Rattle.std.proofs.lemmas.List.{get_or-take, length-map, length-take-le, reve
 use Rattle.std.proofs.Math.Seq.{take-suc, take-length}
 use Rattle.rdf_terms.specs.Lists.{In, AreDistinct}
 use Rattle.rdf_terms.specs.SameTerm.{both}
-use Rattle.rdf_terms.proofs.Finishing.{All-from_each, each-from_All}
 use Rattle.rdf_terms.specs.declared.term.Quad.{Quad}
 use Rattle.map_search.specs.declared.rows.End.{End}
 use Rattle.map_search.specs.declared.rows.End.TheVariants.{Fixed, Place}
@@ -20,6 +19,7 @@ use Rattle.map_search.specs.Rows.{meets_all}
 use Rattle.map_search.specs.Pattern.{carried, map_of, IsNodeMap, TouchesOneOf, end_at, Stands, Meets, IsOtherEnd, IsAsked, IsAskedWhole, IsWhole, row_at, AreRows, TellsMeets, TellsMisses, fits_rows, EachIsAsked, ReachesAll, IsEndIn, EndsAmong, IsPartialNodeMap, HasMoreNodeMaps}
 use Rattle.map_search.specs.Laws.{IsSearch, MeansOfEnding}
 use Rattle.map_search.proofs.Linking.{node_map_is_map}
+use Rattle.rdf_terms.proofs.MadeLists.{All-from_each, each-from_All}
 
 -- ---- each image of a map fits behind those before it
 

@@ -6,10 +6,10 @@ use Rattle.std.proofs.lemmas.List.{length-map}
 use Rattle.rdf_terms.specs.Lists.{In, AreDistinct}
 use Rattle.rdf_terms.specs.SameTerm.{both}
 use Rattle.rdf_terms.proofs.Membership.{In-map, from_In-map}
-use Rattle.rdf_terms.proofs.Finishing.{AreDistinct-map}
 use Rattle.rdf_terms.specs.declared.term.Quad.{Quad}
 use Rattle.map_search.specs.Pattern.{carried, IsNodeMap, TouchesOneOf, IsReachedBy, Misses, ReachesAll, TellsMisses, misses_node}
 use Rattle.map_search.specs.Laws.{IsInTriple}
+use Rattle.rdf_terms.proofs.MadeLists.{AreDistinct-map}
 
 -- ---- lists that are no longer than a part of theirs
 

@@ -2,7 +2,6 @@
 use Rattle.std.proofs.Common.{Bool, List, None, Option, Some, [], ap, cond, false, length, map, refl, sym, take, ℕ, ◌++◌, ◌∙◌, ◌∷◌, ◌≡◌, ◌≤◌, arith}
 use Rattle.std.proofs.lemmas.List.{length-take, length-take-le}
 use Rattle.rdf_terms.specs.Lists.{Text}
-use Rattle.canon_model.specs.Arrangements.{arrangements}
 use Rattle.canon_model.specs.CountedRun.{Chosen, Counted, Outcome, Trace, after, nothing, issuer_or, logged, path_or_none, ties_of_chosen}
 use Rattle.arrangements.specs.Arrangements.{IsFirst}
 use Rattle.ndegree_hash.specs.declared.frame.Frame.{Frame}
@@ -15,6 +14,7 @@ use Rattle.ndegree_hash.proofs.Behind.{arrangements-first}
 use Rattle.ndegree_hash.proofs.Traces.{after-nothing}
 use Rattle.ndegree_hash.proofs.Unfolding.{after_groups-end, after_groups-next}
 use Rattle.ndegree_hash.proofs.TrailParts.{take_mark}
+use Rattle.rdf_terms.specs.Arrangements.{arrangements}
 
 pub group-ends : (c t : List ℕ) (f g : Frame) → f.mark ≤ length t → f.groups ≡ [] → g.text.items ≡ f.text.items → g.mark ≡ f.mark
     → Leads c t f Group nothing t g Return

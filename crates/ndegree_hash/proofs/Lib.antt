@@ -16,4 +16,3 @@ pub mod KnownFrames
 pub mod Keeping
 pub mod Closing
 pub mod Calling
-pub mod Labels

@@ -2,7 +2,6 @@
 use Rattle.std.proofs.Common.{List, None, Option, [], ap, refl, sym, ℕ, ◌++◌, ◌∙◌, ◌∷◌, ◌≡◌}
 use Rattle.rdf_terms.specs.Dataset.{Dataset}
 use Rattle.rdf_terms.specs.Lists.{Text}
-use Rattle.canon_model.specs.Arrangements.{arrangements}
 use Rattle.canon_model.specs.CountedRun.{Chosen, Counted, CountedCall, Outcome, after, counted_groups, counted_permutations, followed_by, issuer_or, logged, one_unit, path_or_none, ties_of_chosen}
 use Rattle.canon_model.specs.Groups.{groups}
 use Rattle.canon_model.specs.Hashing.{Hashing}
@@ -12,6 +11,7 @@ use Rattle.related_hash.specs.Grouping.{AreGroups as AreBags}
 use Rattle.related_hash.specs.declared.group.Group.{Group as Bag}
 use Rattle.ndegree_hash.specs.Resume.{after_groups}
 use Rattle.ndegree_hash.proofs.Behind.{arrangements-Permutes}
+use Rattle.rdf_terms.specs.Arrangements.{arrangements}
 
 module _ (call : CountedCall) (c : List ℕ) where
   abbrev group : Text → List ℕ → Counted (Option Chosen) → Counted Outcome → Counted Outcome

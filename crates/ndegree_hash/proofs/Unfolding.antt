@@ -1,7 +1,6 @@
 -- Each step of a call leaves what it gives in the end as it was, but for what the step itself counts and logs.
 use Rattle.std.proofs.Common.{Bool, List, None, Option, Some, [], ap, codes, cond, false, refl, subst, sym, true, ℕ, ◌++◌, ◌∙◌, ◌∷◌, ◌≡◌, append-nil, append_assoc}
 use Rattle.rdf_terms.specs.Lists.{Text}
-use Rattle.canon_model.specs.Arrangements.{arrangements}
 use Rattle.canon_model.specs.CountedRun.{Chosen, Counted, CountedCall, Outcome, Trace, after, choose, chosen_text, counted_permutations, counted_recursion, followed_by, is_skipped, issuer_or, logged, nothing, one_unit, path_or_none, skips, ties_of_chosen}
 use Rattle.canon_model.specs.Issuer.{label}
 use Rattle.canon_model.specs.Hashing.{Hashing}
@@ -10,6 +9,7 @@ use Rattle.ndegree_hash.specs.Bags.{counted_bags}
 use Rattle.related_hash.specs.declared.group.Group.{Group as Bag}
 use Rattle.ndegree_hash.specs.Resume.{OpenGroup, Waiting, after_choice, after_groups, after_permutation, begin_permutation, between_permutations, in_recursion, resume, resume_all, resumed}
 use Rattle.ndegree_hash.proofs.Traces.{after-after, after-nothing}
+use Rattle.rdf_terms.specs.Arrangements.{arrangements}
 
 module _ (ρ : Hashing) (call : CountedCall) (c : List ℕ) where
   -- ---- the recursion list

@@ -1,8 +1,8 @@
 -- The counted run of a call over its groups as a list (RDF Dataset Canonicalization, section 4.8, step 5).
 use Rattle.std.specs.Prelude.{ℕ, List, [], ◌∷◌, ◌++◌, None}
-use Rattle.canon_model.specs.Arrangements.{arrangements}
 use Rattle.canon_model.specs.CountedRun.{Counted, CountedCall, Outcome, nothing, followed_by, logged, counted_permutations, path_or_none, issuer_or, ties_of_chosen}
 use Rattle.related_hash.specs.declared.group.Group.{Group as Bag}
+use Rattle.rdf_terms.specs.Arrangements.{arrangements}
 
 -- `counted_groups` over such a list
 abbrev pub counted_bags : CountedCall → List ℕ → List Bag → List ℕ → Counted Outcome

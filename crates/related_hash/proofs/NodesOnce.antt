@@ -9,6 +9,7 @@ use Rattle.canon_model.specs.Issuer.{is_issued}
 use Rattle.canon_model.specs.Groups.{as_read, each_node_once}
 use Rattle.canon_model.proofs.RelabelGroups.{each_once-perm}
 use Rattle.related_hash.specs.Grouping.{Ascends}
+use Rattle.canon_model.proofs.Neighbours.{from_In-each_node_once}
 
 -- ---- sorted nodes ascend
 
@@ -26,22 +27,13 @@ Ascends-from_IsNonDecreasing (x ∷ xs) h = (
 
 -- ---- what each node once leaves
 
-In-each_node_once : (y : ℕ) (xs : List ℕ) → In y (each_node_once xs) → In y xs
-In-each_node_once y [] h = h
-In-each_node_once y (x ∷ xs) h = by (is_issued x xs) (In-each_node_once y xs) h
-  where
-    by : (b : Bool) → (In y (each_node_once xs) → In y xs) → In y (cond b (each_node_once xs) (x ∷ each_node_once xs)) → In y (x ∷ xs)
-    by true r m = inr (r m)
-    by false r (inl e) = inl e
-    by false r (inr m) = inr (r m)
-
 Ascends-each_node_once : (xs : List ℕ) → Ascends xs → Ascends (each_node_once xs)
 Ascends-each_node_once [] a = tt
 Ascends-each_node_once (x ∷ xs) a = by (is_issued x xs) (Ascends-each_node_once xs a.1)
   where
     by : (b : Bool) → Ascends (each_node_once xs) → Ascends (cond b (each_node_once xs) (x ∷ each_node_once xs))
     by true r = r
-    by false r = (λ y m. a.0 y (In-each_node_once y xs m), r)
+    by false r = (λ y m. a.0 y (from_In-each_node_once y xs m), r)
 
 pub Ascends-as_read : (ρ : Hashing) (xs : List ℕ) → Ascends xs → Ascends (as_read ρ xs)
 Ascends-as_read ρ xs a = by ρ.once
@@ -49,13 +41,6 @@ Ascends-as_read ρ xs a = by ρ.once
     by : (b : Bool) → Ascends (cond b (each_node_once xs) xs)
     by true = Ascends-each_node_once xs a
     by false = a
-
-pub as_read-perm : (ρ : Hashing) {xs ys : List ℕ} → Permutes xs ys → Permutes (as_read ρ xs) (as_read ρ ys)
-as_read-perm ρ {xs} {ys} p = by ρ.once
-  where
-    by : (b : Bool) → Permutes (cond b (each_node_once xs) xs) (cond b (each_node_once ys) ys)
-    by true = each_once-perm p
-    by false = p
 
 -- ---- neighbours that are equal are left out
 

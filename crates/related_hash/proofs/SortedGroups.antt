@@ -14,7 +14,8 @@ use Rattle.canon_model.specs.Groups.{RelatedEntry, as_read, blank_node_list, eac
 use Rattle.related_hash.specs.declared.group.Group.{Group}
 use Rattle.related_hash.specs.Grouping.{AllAscend, AreGroups, Ascends, StandFor}
 use Rattle.related_hash.specs.Gathering.{AllArranged, IsArranged, groups_of, with_entry}
-use Rattle.related_hash.proofs.NodesOnce.{as_read-perm}
+use Rattle.canon_model.proofs.Neighbours.{from_In-each_text_once}
+use Rattle.canon_model.proofs.RelabelGroups.{as_read-perm}
 
 -- ---- texts that ascend
 
@@ -30,16 +31,6 @@ not-later : (x y : Text) (ys : List Text) → TextsAscend (x ∷ y ∷ ys) → b
 not-later x y ys a f (inl e) = different x y f e
 not-later x y ys a f (inr h) = different x y f (is_at_most-antisymm x y a.0 (ascends-all y x ys a.1 h))
 
-In-once : (z : Text) (xs : List Text) → In z (each_text_once xs) → In z xs
-In-once z [] h = h
-In-once z (x ∷ []) h = h
-In-once z (x ∷ y ∷ ys) h = by (bytes_eq x y) (In-once z (y ∷ ys)) h
-  where
-    by : (b : Bool) → (In z (each_text_once (y ∷ ys)) → In z (y ∷ ys)) → In z (cond b (each_text_once (y ∷ ys)) (x ∷ each_text_once (y ∷ ys))) → In z (x ∷ y ∷ ys)
-    by true r h = inr (r h)
-    by false r (inl e) = inl e
-    by false r (inr h) = inr (r h)
-
 -- such a list with each text once begins with its first, which does not come again
 record Shape (x : Text) (xs : List Text) : Type 0 where
   tail : List Text
@@ -52,7 +43,7 @@ shape x (y ∷ ys) a = by (bytes_eq x y) refl (shape y ys a.1)
   where
     by : (b : Bool) → bytes_eq x y ≡ b → Shape y (each_text_once (y ∷ ys)) → Shape x (cond b (each_text_once (y ∷ ys)) (x ∷ each_text_once (y ∷ ys)))
     by true e s = subst (λ w. Shape w (each_text_once (y ∷ ys))) (sym ((bytes_eq-Decides x y).0 e)) s
-    by false e s = record { tail = each_text_once (y ∷ ys); is = refl; apart = λ z h d. not-later x y ys a e (subst (λ w. In w (y ∷ ys)) d (In-once z (y ∷ ys) h)) }
+    by false e s = record { tail = each_text_once (y ∷ ys); is = refl; apart = λ z h d. not-later x y ys a e (subst (λ w. In w (y ∷ ys)) d (from_In-each_text_once z (y ∷ ys) h)) }
 
 -- ---- the nodes under a hash
 
@@ -122,7 +113,7 @@ groups_of-ascending (e ∷ d ∷ entries) a = by (cases_Bool (bytes_eq e.hash d.
         (step-same e (nodes_under (d ∷ entries)) (nodes_under (e ∷ d ∷ entries)) d.hash s.tail (groups_of (d ∷ entries)) (sym same) k (under-here e (d ∷ entries) d.hash same) (λ z m. under-other e (d ∷ entries) z (λ q. s.apart z m (q ∙ same)))))
     by (inr f) r =
         let apart : ¬ (In e.hash (map hash_of_entry (d ∷ entries))) = not-later e.hash d.hash (map hash_of_entry entries) a f in
-        let far : (z : Text) → In z (each_text_once (map hash_of_entry (d ∷ entries))) → ¬ (z ≡ e.hash) = λ z m q. apart (subst (λ w. In w (map hash_of_entry (d ∷ entries))) q (In-once z (map hash_of_entry (d ∷ entries)) m)) in
+        let far : (z : Text) → In z (each_text_once (map hash_of_entry (d ∷ entries))) → ¬ (z ≡ e.hash) = λ z m q. apart (subst (λ w. In w (map hash_of_entry (d ∷ entries))) q (from_In-each_text_once z (map hash_of_entry (d ∷ entries)) m)) in
         subst (λ (v : Bool). AreGroups (nodes_under (e ∷ d ∷ entries)) (cond v (each_text_once (map hash_of_entry (d ∷ entries))) (e.hash ∷ each_text_once (map hash_of_entry (d ∷ entries)))) (groups_of (e ∷ d ∷ entries))) (sym f)
         (step-new e (nodes_under (d ∷ entries)) (nodes_under (e ∷ d ∷ entries)) (each_text_once (map hash_of_entry (d ∷ entries))) (groups_of (d ∷ entries)) r
         (under-here e (d ∷ entries) e.hash refl ∙ ap (λ ns. e.node ∷ ns) (under-none (d ∷ entries) e.hash apart)) (λ z m. under-other e (d ∷ entries) z (far z m)) far)

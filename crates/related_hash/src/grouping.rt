@@ -54,12 +54,13 @@ fn closed(group: OpenGroup, profile: Profile) -> Group
     }
 }
 
-// The groups with their nodes as the profile reads them.
+// The groups with their nodes as the profile reads them, in a vector with room for no more: the calls that stand open
+// each keep theirs.
 fn all_closed(alloc: Global, groups: OpenGroups, profile: Profile) -> Result<Vec<Group>, NoMemory>
     ensures { IfOk result (λ closed. AllArranged (meaning profile) groups closed.items) }
 {
     let mut open = groups;
-    let mut closed_groups = Vec::new(alloc);
+    let mut closed_groups = Vec::with_capacity(alloc, open.len())?;
     while let Some(group) = open.next() {
         closed_groups.push(closed(group, profile))?;
     }

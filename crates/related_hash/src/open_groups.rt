@@ -1,6 +1,6 @@
 //! Groups that are being gathered.
 
-ghost use Rattle.std.specs.Prelude.{◌≡◌, [], ◌∷◌, OnOk, MatchOption};
+ghost use Rattle.std.specs.Prelude.{◌≡◌, [], ◌∷◌, length, OnOk, MatchOption};
 ghost use Rattle.related_hash.specs.Entries.{related_entry};
 ghost use Rattle.related_hash.specs.Gathering.{with_entry};
 
@@ -69,6 +69,12 @@ impl OpenGroups {
             nodes,
         })?;
         Ok(())
+    }
+
+    pub fn len(&self) -> usize
+        ensures { result ≡ length self.now }
+    {
+        self.groups.len()
     }
 
     /// Takes the first group out.

@@ -69,6 +69,7 @@ module _ (open_mark close_mark : ℕ) (body : Body) (opens : open_mark < 128) (c
           spells = subst (λ b. Spells b run.spelled_characters run.value_characters) (sym run.body_is) run.spells;
         };
         plain = λ h. run.spelled_is ∙ ap encode_utf8_all (run.plain h);
+        escaped = run.escaped;
       }
 
   pub between_unclosed : ((after : List ℕ) → rest ≢ close_mark ∷ after) → TextBeginsWithNone (IsBetween open_mark close_mark body) text

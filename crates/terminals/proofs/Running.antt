@@ -13,6 +13,8 @@ use Rattle.terminals.specs.Escapes.{BeginsWithOne, BeginsWithNoOne}
 use Rattle.terminals.specs.Spellings.{stands_for_itself, IsEscape, Spells, SpellsNone, BeginsWithRun}
 use Rattle.terminals.proofs.Plain.{plain_front, behind_plain, PlainFront}
 use Rattle.terminals.proofs.Unique.{spells-append, spells_escape, escape_ascii, escape_front}
+use Rattle.rdf_terms.specs.Lists.{In}
+use Rattle.rdf_terms.proofs.Membership.{In-append_left, In-append_right}
 
 -- characters whose bytes begin with those of others begin with these
 pub front_from_encodes : (cs front : List ℕ) (rest : List ℕ) → encode_utf8_all cs ≡ encode_utf8_all front ++ rest
@@ -37,6 +39,7 @@ pub record Ran (body : Body) (text rest : List ℕ) (has_escapes : Bool) : Type 
   pub scalars : all_scalars behind ≡ true
   pub spells : Spells body spelled value
   pub plain : has_escapes ≡ false → spelled ≡ value
+  pub escaped : has_escapes ≡ true → In 92 spelled
   pub stops : (c : ℕ) (more : List ℕ) → behind ≡ c ∷ more → stands_for_itself body c ≡ false
 
 -- a text, its front of characters that stand for themselves, and what follows them
@@ -59,6 +62,7 @@ ran_start body text rest utf8 cut =
       scalars = plain.scalars;
       spells = plain.spells;
       plain = λ h. refl;
+      escaped = λ h. absurd (true≢false (sym h));
       stops = plain.stops;
     }
 
@@ -90,6 +94,7 @@ ran_step body text rest after next c h ran one cut =
       spells = spells-append body (ran.value ++ c ∷ []) plain.front (ran.spelled ++ one.spelled) plain.front
           (spells-append body ran.value (c ∷ []) ran.spelled one.spelled ran.spells (spells_escape body one.spelled c one.fits)) plain.spells;
       plain = λ e. absurd (true≢false e);
+      escaped = λ _. In-append_left (ran.spelled ++ one.spelled) plain.front 92 (In-append_right ran.spelled one.spelled 92 (subst (In 92) (sym (escape_front body one.spelled c one.fits).1) (inl refl)));
       stops = plain.stops;
     }
 
@@ -130,6 +135,7 @@ ran_to_end body text rest spelling ran none cut same = record {
   body_is = same;
   spells = ran.spells;
   plain = ran.plain;
+  escaped = ran.escaped;
   ends = ran_ends body text rest spelling.has_escapes ran none;
 }
 

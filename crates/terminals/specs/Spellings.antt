@@ -1,7 +1,7 @@
 -- How the characters between the marks of an IRI or a string are spelled (RDF 1.1 N-Quads, section 4; RDF 1.1 TriG, section 4.5).
 use Rattle.std.specs.Prelude.{◌≡◌, ℕ, Bool, true, false, not, ◌||◌, ◌==◌, ◌⊎◌, [], ◌∷◌, ◌++◌, encode_utf8_all}
 use Rattle.std.specs.Char.{IsScalar}
-use Rattle.rdf_terms.specs.Lists.{Text}
+use Rattle.rdf_terms.specs.Lists.{Text, In}
 use Rattle.char_tables.specs.Rows.{is_in}
 use Rattle.char_tables.specs.Classes.{excluded_from_iriref}
 use Rattle.terminals.specs.Terminal.{Characters}
@@ -61,6 +61,8 @@ pub record BeginsWithRun (body : Body) (text : Text) (spelling : Spelling) (rest
   pub body_is : spelling.body ≡ body
   pub spells : Spells body spelled_characters value_characters
   pub plain : spelling.has_escapes ≡ false → spelled_characters ≡ value_characters
+  -- a `\` begins each escape and is nowhere else
+  pub escaped : spelling.has_escapes ≡ true → In 92 spelled_characters
   pub ends : SpellsNone body rest_characters
 
 -- the value begins with what was written of it

@@ -1,7 +1,7 @@
 -- The terminals that N-Quads and TriG share (RDF 1.1 N-Quads, section 4; RDF 1.1 TriG, section 4.5).
 use Rattle.std.specs.Prelude.{◌≡◌, ◌≤◌, ℕ, Bool, true, false, ◌||◌, ◌==◌, ◌⊎◌, List, [], ◌∷◌, ◌++◌, All, length, encode_utf8_all}
 use Rattle.std.specs.Char.{is_ascii_digit, is_ascii_alphanumeric}
-use Rattle.rdf_terms.specs.Lists.{Text}
+use Rattle.rdf_terms.specs.Lists.{Text, In}
 use Rattle.rdf_terms.specs.Terms.{IsLanguageTag, IsSubtag, behind_dashes}
 use Rattle.char_tables.specs.Rows.{is_in}
 use Rattle.char_tables.specs.Classes.{pn_chars_u_nquads, pn_chars_u_trig, pn_chars}
@@ -89,3 +89,4 @@ pub record ReadsSpelling (terminal : Characters → Characters → Type 0) (text
   pub begins : TextBeginsWith terminal text value rest
   pub spells : TextSpells spelling.body spelling.text.now value
   pub plain : spelling.has_escapes ≡ false → spelling.text.now ≡ value
+  pub escaped : spelling.has_escapes ≡ true → In 92 spells.spelled_characters

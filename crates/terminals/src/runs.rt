@@ -16,7 +16,7 @@ pub struct Spelling<'a> {
     pub text: &'a str,
     /// Between which marks they stand.
     pub body: Body,
-    /// Whether an escape is among them. If not, the text is its own value.
+    /// Whether an escape is among them. Where none is, the text is its own value.
     pub has_escapes: bool,
 }
 

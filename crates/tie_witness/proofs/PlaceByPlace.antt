@@ -4,7 +4,7 @@ use Rattle.std.specs.List.{list_any}
 use Rattle.std.specs.List.Sorted.{IsPermutation, IsSortedByKey}
 use Rattle.std.specs.Ordering.{nat_cmp, is_lt}
 use Rattle.std.proofs.lemmas.Bool.Decides.{nat_tests}
-use Rattle.std.proofs.lemmas.List.{take_more}
+use Rattle.std.proofs.lemmas.List.{take_more, map-append}
 use Rattle.rdf_terms.proofs.Membership.{In-append, In-append_left, In-append_right, from_In-map}
 use Rattle.rdf_terms.proofs.Permutations.{AreDistinct-Permutes, In-Permutes, Permutes-from_IsPermutation, Permutes-map, Permutes-sym}
 use Rattle.rdf_terms.specs.CanonicalForm.{after_first, place_of}
@@ -14,11 +14,11 @@ use Rattle.canon_model.specs.Ties.{exchange, node_at}
 use Rattle.canon_model.proofs.Exchange.{node_at-next}
 use Rattle.canon_model.proofs.ExchangeSymmetry.{by_places}
 use Rattle.canon_model.proofs.Issuers.{AreOnce, In-from_is_issued, are_once_from_distinct, is_issued-from_not_In, not_In-from_is_issued}
-use Rattle.canon_model.proofs.Maps.{map-append}
 use Rattle.tie_witness.specs.Moving.{AreMovedBy, moved_at, moved_by_place}
 use Rattle.tie_witness.specs.Tails.{AreTails, IsSameUnless, TellsExchange}
 use Rattle.tie_witness.specs.Witness.{AscendByFirst}
 use Rattle.tie_witness.proofs.Exchanging.{exchange-behind, exchange-inside, exchange-outside}
+use Rattle.rdf_terms.proofs.MadeLists.{AreDistinct-append}
 
 abbrev pub firsts : List (ℕ × ℕ) → List ℕ
 firsts pairs = map (λ (p : ℕ × ℕ). p.0) pairs
@@ -119,10 +119,6 @@ In-moved (z ∷ l) (w ∷ m) e x y h p n = by (eqb z x) refl h (In-moved l m (cc
     by false q r ih = In-append_right (moved_at z w) (moved_by_place l m) (x, y) (ih r (sym (places-later z w x l m q) ∙ p) n)
 
 -- ---- no node begins two pairs
-
-AreDistinct-append : (xs ys : List ℕ) → AreDistinct xs → AreDistinct ys → ((x : ℕ) → In x xs → ¬ (In x ys)) → AreDistinct (xs ++ ys)
-AreDistinct-append [] ys d e f = e
-AreDistinct-append (x ∷ xs) ys d e f = (λ h. elim (In-append xs ys x h) [ inl a ↦ d.0 a | inr a ↦ f x (inl refl) a ], AreDistinct-append xs ys d.1 e (λ z h. f z (inr h)))
 
 firsts-inside : (l m : List ℕ) → AreOnce l → length l ≡ length m → (x : ℕ) → In x (firsts (moved_by_place l m)) → is_issued x l ≡ true
 firsts-inside l m d e x h = let r = from_In-map (λ (p : ℕ × ℕ). p.0) (moved_by_place l m) x h in (from_In-moved l m d e x r.0.1 (subst (λ (z : ℕ). In (z, r.0.1) (moved_by_place l m)) (sym r.2) r.1)).inside

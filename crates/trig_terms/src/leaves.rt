@@ -7,18 +7,10 @@ ghost use Rattle.trig_terms.specs.Leaves.{IsSpelled, IsLeafOf, IsValidLeaf};
 use crate::names::{name, namespace};
 use crate::strings::{spelled, string};
 use crate::{Leaf, LeafText};
-use rdf_terms::NoMemory;
+use rdf_terms::{NoMemory, xsd};
 use std::alloc::Global;
 use terminals::{Grammar, blank_node_label, iriref, langtag};
 use trig_lexer::Kind;
-
-const XSD_INTEGER: &str = "http://www.w3.org/2001/XMLSchema#integer";
-
-const XSD_DECIMAL: &str = "http://www.w3.org/2001/XMLSchema#decimal";
-
-const XSD_DOUBLE: &str = "http://www.w3.org/2001/XMLSchema#double";
-
-const XSD_BOOLEAN: &str = "http://www.w3.org/2001/XMLSchema#boolean";
 
 // The IRIREF that the text is.
 fn iri(alloc: Global, text: &str) -> Result<Leaf<'_>, NoMemory>
@@ -77,10 +69,10 @@ pub fn leaf_of(alloc: Global, kind: Kind, text: &str) -> Result<Leaf<'_>, NoMemo
         Kind::PnameLn => name(alloc, text),
         Kind::BlankLabel => Ok(label(text)),
         Kind::Anon => Ok(Leaf::Anonymous),
-        Kind::Integer => Ok(typed(text, XSD_INTEGER)),
-        Kind::Decimal => Ok(typed(text, XSD_DECIMAL)),
-        Kind::Double => Ok(typed(text, XSD_DOUBLE)),
-        Kind::WordTrue | Kind::WordFalse => Ok(typed(text, XSD_BOOLEAN)),
+        Kind::Integer => Ok(typed(text, xsd::INTEGER)),
+        Kind::Decimal => Ok(typed(text, xsd::DECIMAL)),
+        Kind::Double => Ok(typed(text, xsd::DOUBLE)),
+        Kind::WordTrue | Kind::WordFalse => Ok(typed(text, xsd::BOOLEAN)),
         Kind::Quoted => string(alloc, text),
         Kind::LangTag => Ok(tag(text)),
         kind => Ok(Leaf::Mark(kind)),

@@ -1,11 +1,11 @@
 use Rattle.std.proofs.Common.{◌≡◌, ℕ, ◌<◌, length}
 use Rattle.rdf_terms.specs.Lists.{In}
-use Rattle.rdf_terms.proofs.Finishing.{each-from_All}
 use Rattle.map_search.specs.Numbers.{AreNumbers}
 use Rattle.lean_search.specs.Image.{quads_left}
 use Rattle.lean_search.proofs.Settling.{numbers_of, own_few, walk_some, walk_within}
 use Rattle.lean_search.specs.Image.{left}
 use Rattle.lean_search.proofs.component.search_walk.Goals as goal
+use Rattle.rdf_terms.proofs.MadeLists.{each-from_All}
 
 pub terms_of-requires : goal.terms_of-requires
 terms_of-requires c = walk_within c.args.graph.now c.args.room.now.index.live c.args.walk.now c.requires.one c.requires.walk

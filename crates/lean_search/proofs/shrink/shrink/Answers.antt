@@ -1,11 +1,11 @@
 use Rattle.std.proofs.Common.{◌≡◌, ℕ, ◌<◌, ◌↔◌, length, sym, ap, ◌∙◌, subst, arith}
 use Rattle.std.specs.List.{All}
 use Rattle.rdf_terms.specs.Lists.{In}
-use Rattle.rdf_terms.proofs.Finishing.{All-from_each}
 use Rattle.map_search.specs.Pattern.{map_of}
 use Rattle.lean_search.specs.Image.{IsReachedFrom}
 use Rattle.lean_search.proofs.Shrinking.{leaves_reached}
 use Rattle.lean_search.proofs.shrink.shrink.Goals as goal
+use Rattle.rdf_terms.proofs.MadeLists.{All-from_each}
 
 pub places_reached-requires-clause-within : goal.places_reached-requires-clause-within
 places_reached-requires-clause-within c = subst (All (λ k. k < length c.args.graph.now.quads)) (sym c.as_slice.ensures.value) (All-from_each (λ k. k < length c.args.graph.now.quads) c.in_ok-places.places.items (λ k i. ((c.in_ok-places.ensures k).0 i).within))

@@ -1,13 +1,13 @@
 use Rattle.std.proofs.Common.{◌≡◌, ◌++◌, ◌∷◌, [], ◌<◌, ◌≤◌, ◌⊎◌, ℕ, refl, Option, Some, None, true, false, length, set, sym, ap, ◌∙◌, subst, arith}
 use Rattle.std.specs.List.{All}
 use Rattle.rdf_terms.specs.Lists.{In}
-use Rattle.rdf_terms.proofs.Finishing.{All-from_each}
 use Rattle.map_search.specs.Marks.{mark_at}
 use Rattle.lean_search.specs.Image.{left}
 use Rattle.lean_search.specs.Walk.{HasWalked, IsNextOf, count_unmarked}
 use Rattle.lean_search.proofs.AtNodes.{used_within}
 use Rattle.lean_search.proofs.Walking.{begins, fewer, mark_within, next_fresh, next_used, not_true, none_ahead, unmarked, walk_on, walk_whole}
 use Rattle.lean_search.proofs.walk.walk_from.Goals as goal
+use Rattle.rdf_terms.proofs.MadeLists.{All-from_each}
 
 pub walk_to-requires-clause-within : goal.walk_to-requires-clause-within
 walk_to-requires-clause-within c =

@@ -1,7 +1,6 @@
 use Rattle.std.proofs.Common.{◌≡◌, ℕ, ◌<◌, ◌++◌, ◌∷◌, ◌⊎◌, ◌↔◌, [], true, false, length, set, sym, ap, ◌∙◌, subst, arith}
 use Rattle.std.specs.List.{filter, All}
 use Rattle.rdf_terms.specs.Document.{statements}
-use Rattle.rdf_terms.proofs.Finishing.{All-from_each}
 use Rattle.dataset_index.specs.Mentions.{places_of}
 use Rattle.map_search.specs.Marks.{mark_at}
 use Rattle.lean_search.specs.Image.{left}
@@ -9,6 +8,7 @@ use Rattle.lean_search.specs.Walk.{IsNear, IsWalking}
 use Rattle.lean_search.proofs.AtNodes.{place_left}
 use Rattle.lean_search.proofs.Walking.{goes_on, next_of, ahead_within}
 use Rattle.lean_search.proofs.walk.walk_to.Goals as goal
+use Rattle.rdf_terms.proofs.MadeLists.{All-from_each}
 
 pub note_ends-requires-clause-within : goal.note_ends-requires-clause-within
 note_ends-requires-clause-within c =

@@ -5,8 +5,9 @@ use Rattle.rdf_terms.proofs.Permutations.{Permutes-from_IsPermutation}
 use Rattle.canon_model.specs.Groups.{as_read}
 use Rattle.canon_model.specs.Meaning.{meaning}
 use Rattle.related_hash.specs.Grouping.{Ascends}
-use Rattle.related_hash.proofs.NodesOnce.{Ascends-as_read, Ascends-from_IsNonDecreasing, as_read-perm}
+use Rattle.related_hash.proofs.NodesOnce.{Ascends-as_read, Ascends-from_IsNonDecreasing}
 use Rattle.related_hash.proofs.once.as_profile_reads.Goals as goal
+use Rattle.canon_model.proofs.RelabelGroups.{as_read-perm}
 
 pub leave_once-requires : goal.leave_once-requires
 leave_once-requires c = Ascends-from_IsNonDecreasing _ (IsNonDecreasingBy-from_sort (λ x. x) _ c.sort_unstable.ensures.sorted)
