@@ -1,13 +1,14 @@
 -- A document that is read has no fault, and one that is not read has one cause.
-use Rattle.std.proofs.Common.{◌≡◌, ◌≢◌, ℕ, zero, suc, ◌-◌, ◌<◌, ◌≤◌, List, [], ◌∷◌, ◌⊎◌, Option, Some, IfSome, All, length, take, slice_get, refl, ap, sym, subst, ◌∙◌, inl, inr, arith}
+use Rattle.std.proofs.Common.{◌≡◌, ◌≢◌, ℕ, zero, suc, ◌-◌, ◌<◌, ◌≤◌, List, [], ◌∷◌, Some, IfSome, All, length, take, slice_get, refl, ap, subst, inl, inr, arith}
 use Rattle.std.proofs.lemmas.Bool.{cases_lt}
 use Rattle.std.proofs.lemmas.List.Elements.{All-head, All-tail}
 use Rattle.rdf_terms.specs.Lists.{Text}
 use Rattle.rdf_terms.specs.Terms.{Statement}
 use Rattle.rdf_terms.specs.declared.term.Label.{Label}
 use Rattle.nquads_reader.specs.Lines.{lines_of}
-use Rattle.nquads_reader.specs.Document.{IsAbsolute, IsNotUtf8, IsBad, HasRelativeIri, IsLeastFaulty, IsNQuads, IsCauseOf}
+use Rattle.nquads_reader.specs.Document.{AllState, IsAbsolute, IsNotUtf8, IsBad, HasRelativeIri, IsLeastFaulty, IsNQuads, IsCauseOf}
 use Rattle.nquads_reader.specs.declared.TheConstants.{MAX_QUADS}
+use Rattle.nquads_reader.specs.declared.quad.StatedQuad.{StatedQuad}
 use Rattle.nquads_reader.specs.declared.fault.ReadFault.{ReadFault}
 use Rattle.nquads_reader.specs.declared.fault.ReadFault.TheVariants.{NotUtf8, BadLine, RelativeIri, TooManyQuads, NoMemory}
 use Rattle.nquads_reader.proofs.LineTerms.{stated_same}
@@ -33,13 +34,13 @@ front_at (x ∷ xs) (suc n) (suc k) line less at = front_at xs n k line (omega a
 abbrev Excludes : (Text → Type 0) → (Text → Type 0) → Type 0
 Excludes HasFault HasOther = (line : Text) → HasFault line → HasOther line → ⊥
 
-not_utf8_passed : Excludes IsNotUtf8 IsPassed
+pub not_utf8_passed : (line : Text) → IsNotUtf8 line → IsPassed line → ⊥
 not_utf8_passed line fault passed = fault passed.1.utf8
 
-bad_passed : Excludes IsBad IsPassed
+pub bad_passed : (line : Text) → IsBad line → IsPassed line → ⊥
 bad_passed line fault passed = fault.1 passed.0 passed.1.states
 
-relative_passed : Excludes HasRelativeIri IsPassed
+pub relative_passed : (line : Text) → HasRelativeIri line → IsPassed line → ⊥
 relative_passed line fault passed =
     let relative = fault.1 in
     let same = stated_same line passed.0 (Some relative.0) passed.1.states relative.1 in
@@ -82,8 +83,11 @@ module _ (lines : List Text) (HasFault HasOther : Text → Type 0) (m n : ℕ) (
 
 -- ---- a document that is read
 
+pub no_fault_of_lines : (lines : List Text) (quads : List StatedQuad) (HasFault : Text → Type 0) (n : ℕ) → AllState lines quads → IsLeastFaulty HasFault lines n → ((line : Text) → HasFault line → IsPassed line → ⊥) → ⊥
+no_fault_of_lines lines quads HasFault n all least excludes = excludes least.line least.fault (passed_at lines (n - 1) least.line (all_passed lines quads all) least.at)
+
 no_fault : (bytes : Text) (labels : List Label) (sts : List Statement) (HasFault : Text → Type 0) (n : ℕ) → IsNQuads bytes labels sts → IsLeastFaulty HasFault (lines_of bytes) n → Excludes HasFault IsPassed → ⊥
-no_fault bytes labels sts HasFault n read least excludes = excludes least.line least.fault (passed_at (lines_of bytes) (n - 1) least.line (all_passed (lines_of bytes) read.stated read.faultless) least.at)
+no_fault bytes labels sts HasFault n read least excludes = no_fault_of_lines (lines_of bytes) read.stated HasFault n read.faultless least excludes
 
 pub no_cause : (bytes : Text) (labels : List Label) (sts : List Statement) → IsNQuads bytes labels sts → length sts ≤ MAX_QUADS → (fault : ReadFault) → IsCauseOf bytes fault → fault ≡ NoMemory
 no_cause bytes labels sts read within (NotUtf8 n) h = absurd (no_fault bytes labels sts IsNotUtf8 n read h not_utf8_passed)

@@ -1,6 +1,6 @@
 -- Bytes are cut behind their last line end, and further bytes end further lines.
 use Rattle.std.proofs.Common.{◌≡◌, ℕ, ◌<◌, ◌≤◌, Bool, true, false, ◌||◌, ◌&&◌, ◌==◌, List, [], ◌∷◌, ◌++◌, All, length, drop, refl, sym, ap, subst, ◌∙◌, true≢false, arith, append_assoc, append-nil, length-drop, if◌then◌else◌}
-use Rattle.std.proofs.lemmas.Bool.{eqb-true}
+use Rattle.std.proofs.lemmas.Bool.{eqb-true, or_parts}
 use Rattle.std.proofs.lemmas.List.Elements.{All-nil, All-cons, All-head, All-tail, All-append}
 use Rattle.rdf_terms.specs.Lists.{Text}
 use Rattle.nquads_reader.specs.Lines.{lines_of, onto_first, begins_with_lf}
@@ -9,10 +9,6 @@ use Rattle.nquads_reader.specs.Feeding.{ended_lines, tail_behind, behind_line_en
 
 abbrev IsInside : ℕ → Type 0
 IsInside c = is_line_end c ≡ false
-
-neither : (x y : Bool) → (x || y) ≡ false → (x ≡ false) × (y ≡ false)
-neither true y h = absurd (true≢false h)
-neither false y h = (refl, h)
 
 -- ---- the first line
 
@@ -109,21 +105,21 @@ lines_lf (c ∷ (d ∷ cs)) h = lf_next c d cs (lines_lf (d ∷ cs) h)
 pub lines_onto : (tail more line : Text) (lines : List Text) → All IsInside tail → lines_of more ≡ line ∷ lines → lines_of (tail ++ more) ≡ (tail ++ line) ∷ lines
 lines_onto [] more line lines clean h = h
 lines_onto (c ∷ cs) more line lines clean h =
-    let here = neither (c == 10) (c == 13) (All-head IsInside c cs clean) in
+    let here = or_parts (c == 10) (c == 13) (All-head IsInside c cs clean) in
     inside c (cs ++ more) here.0 here.1 ∙ ap (onto_first c) (lines_onto cs more line lines (All-tail IsInside c cs clean) h)
 
 pub one_line : (c : ℕ) (cs : Text) → All IsInside (c ∷ cs) → lines_of (c ∷ cs) ≡ (c ∷ cs) ∷ []
-one_line c [] clean = let here = neither (c == 10) (c == 13) (All-head IsInside c [] clean) in inside c [] here.0 here.1
+one_line c [] clean = let here = or_parts (c == 10) (c == 13) (All-head IsInside c [] clean) in inside c [] here.0 here.1
 one_line c (d ∷ ds) clean =
-    let here = neither (c == 10) (c == 13) (All-head IsInside c (d ∷ ds) clean) in
+    let here = or_parts (c == 10) (c == 13) (All-head IsInside c (d ∷ ds) clean) in
     inside c (d ∷ ds) here.0 here.1 ∙ ap (onto_first c) (one_line d ds (All-tail IsInside c (d ∷ ds) clean))
 
 inside_lf : (tail : Text) → All IsInside tail → begins_with_lf tail ≡ false
 inside_lf [] clean = refl
-inside_lf (c ∷ cs) clean = (neither (c == 10) (c == 13) (All-head IsInside c cs clean)).0
+inside_lf (c ∷ cs) clean = (or_parts (c == 10) (c == 13) (All-head IsInside c cs clean)).0
 
 inside_cr : (c : ℕ) (cs : Text) → All IsInside (c ∷ cs) → ends_with_cr (c ∷ cs) ≡ false
-inside_cr c [] clean = (neither (c == 10) (c == 13) (All-head IsInside c [] clean)).1
+inside_cr c [] clean = (or_parts (c == 10) (c == 13) (All-head IsInside c [] clean)).1
 inside_cr c (d ∷ ds) clean = inside_cr d ds (All-tail IsInside c (d ∷ ds) clean)
 
 abbrev FirstInside : List Text → Type 0

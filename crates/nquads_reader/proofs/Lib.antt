@@ -20,6 +20,7 @@ mod WrittenTerminals
 mod WrittenQuads
 mod WrittenTerms
 mod WrittenLines
+pub mod CanonicalLines
 mod WrittenLabels
 mod NumberedNames
 mod ReadLabels

@@ -2,7 +2,7 @@
 use Rattle.std.proofs.Common.{◌≡◌, ℕ, zero, suc, ◌+◌, ◌-◌, ◌<◌, ◌≤◌, Bool, true, false, ◌||◌, List, [], ◌∷◌, ◌++◌, length, take, drop, slice_index, get_or, refl, sym, ap, ◌∙◌, true≢false, arith, eqb, ◌==◌, ◌≢◌, append-nil, add-one, drop-cons}
 use Rattle.std.proofs.lemmas.List.{take_all, drop_all, get_or-drop}
 use Rattle.std.proofs.Common.{length-drop}
-use Rattle.std.proofs.lemmas.Bool.{eqb-true}
+use Rattle.std.proofs.lemmas.Bool.{eqb-true, or_parts}
 use Rattle.std.proofs.lemmas.Bool.Decides.{nat_tests}
 use Rattle.std.proofs.lemmas.Bool.{false_from_ne_true}
 use Rattle.memchr.specs.Find.{is_byte2, Nowhere, Passes}
@@ -16,12 +16,8 @@ put_front : (cs : List ℕ) (l : List ℕ) (ls : List (List ℕ)) → put cs (l 
 put_front [] l ls = refl
 put_front (c ∷ cs) l ls = ap (onto_first c) (put_front cs l ls)
 
-neither : (x y : Bool) → (x || y) ≡ false → (x ≡ false) × (y ≡ false)
-neither true y h = absurd (true≢false h)
-neither false y h = (refl, h)
-
 plain : (c : ℕ) (cs : List ℕ) → is_byte2 10 13 c ≡ false → lines_of (c ∷ cs) ≡ onto_first c (lines_of cs)
-plain c cs h = let p = neither (c == 10) (c == 13) h in rw (p.0, p.1) refl
+plain c cs h = let p = or_parts (c == 10) (c == 13) h in rw (p.0, p.1) refl
 
 pass : (bs : List ℕ) (n : ℕ) → n ≤ length bs → ((k : ℕ) → k < n → is_byte2 10 13 (slice_index bs k) ≡ false) → lines_of bs ≡ put (take n bs) (lines_of (drop n bs))
 pass bs zero l h = refl
@@ -85,7 +81,3 @@ module _ (bs : List ℕ) (n : ℕ) (l : n < length bs) (h : Nowhere (Passes (is_
       by : (b : Bool) → eqb (get_or bs n 0) 10 ≡ b → lines_of bs ≡ take n bs ∷ lines_of (drop (n + 1) bs)
       by true h = ends_lf (eqb-true (get_or bs n 0) 10 h)
       by false h = let e : get_or bs n 0 ≡ 13 = eqb-true (get_or bs n 0) 13 (sym (ap (λ x. x || eqb (get_or bs n 0) 13) h) ∙ t) in ends_cr e (d e)
-
--- what a range to the end of a slice gives
-pub rest_all : (m : ℕ) (bs : List ℕ) → take (length bs - m) (drop m bs) ≡ drop m bs
-rest_all m bs = take_all (length bs - m) (drop m bs) (omega (arith, length-drop m bs))

@@ -16,9 +16,9 @@ use Rattle.nquads_reader.specs.declared.quad.Object.TheVariants.{Resource as Res
 use Rattle.nquads_reader.specs.declared.quad.StatedQuad.{StatedQuad}
 use Rattle.nquads_reader.specs.Document.{quads_in, AllState, mentioned, IsResourceTerm, IsObjectTerm, IsGraphNameTerm, IsStatementOf, AreRead}
 use Rattle.nquads_reader.proofs.LineTerms.{stated_same}
-use Rattle.nquads_reader.proofs.Used.{AddsAll-distinct}
+use Rattle.rdf_terms.proofs.Added.{AreDistinct-AddsAll}
 
-state-same : (lines : List Text) (a b : List StatedQuad) → AllState lines a → AllState lines b → a ≡ b
+pub state-same : (lines : List Text) (a b : List StatedQuad) → AllState lines a → AllState lines b → a ≡ b
 state-same [] a b h k = h ∙ sym k
 state-same (line ∷ lines) a b h k =
     let one = stated_same line h.0 k.0 h.2.states k.2.states in
@@ -78,7 +78,7 @@ pub AreRead-same : (lines : List Text) (labels other : List Label) (sts others :
 AreRead-same lines labels other sts others h k =
     let stated = state-same lines h.stated k.stated h.faultless k.faultless in
     let same : labels ≡ other = adds_all-same [] (flat_map mentioned k.stated) labels other (subst (λ qs. AddsAll [] (flat_map mentioned qs) labels) stated h.labels_are) k.labels_are in
-    let distinct = AddsAll-distinct [] (flat_map mentioned k.stated) other k.labels_are tt in
+    let distinct = AreDistinct-AddsAll [] (flat_map mentioned k.stated) other k.labels_are tt in
     let numbers = subst (λ ls. AllZip (IsStatementOf ls) k.stated h.numbered) same (subst (λ qs. AllZip (IsStatementOf labels) qs h.numbered) stated h.numbers) in
     let numbered = statements-same other distinct k.stated h.numbered k.numbered numbers k.numbers in
     (same, adds_all-same [] k.numbered sts others (subst (λ ns. AddsAll [] ns sts) numbered h.statements_are) k.statements_are)

@@ -10,29 +10,16 @@ use Rattle.rdf_terms.specs.Dataset.{IsUsed}
 use Rattle.rdf_terms.specs.Isomorphism.{Relabelling}
 use Rattle.rdf_terms.specs.CanonicalForm.{Naming}
 use Rattle.rdf_terms.specs.declared.term.Label.{Label}
-use Rattle.rdf_terms.proofs.Finishing.{each-from_All}
 use Rattle.rdf_terms.proofs.Membership.{In-append, In-append_left, In-append_right, In-map, from_In-map}
-use Rattle.rdf_terms.proofs.Ranks.{In-numbers_below, AreDistinct-numbers_below, get_or-numbers_below, length-numbers_below}
+use Rattle.rdf_terms.proofs.Ranks.{from_In-numbers_below, AreDistinct-numbers_below, get_or-numbers_below, length-numbers_below, In-numbers_below}
 use Rattle.canonical_writer.specs.Determined.{ListsNodes}
 use Rattle.canonical_writer.proofs.Partners.{partner, partner-at, partners, length-listed}
-use Rattle.canonical_writer.proofs.Placing.{place-found, place-here, In-get_or}
+use Rattle.canonical_writer.proofs.Placing.{place-found, place-here}
 use Rattle.nquads_reader.specs.Document.{mentioned}
-use Rattle.nquads_reader.proofs.Used.{AddsAll-distinct, all_from, all_there}
 use Rattle.nquads_reader.proofs.WrittenQuads.{written_quad}
 use Rattle.nquads_reader.proofs.WrittenLabels.{name_label, IsName, quad_name, quad_label}
-
-In-flat_map : {A B : Type 0} (f : A → List B) (x : A) (y : B) (xs : List A) → In x xs → In y (f x) → In y (flat_map f xs)
-In-flat_map f x y [] h g = absurd h
-In-flat_map f x y (z ∷ xs) (inl e) g = In-append_left (f z) (flat_map f xs) y (subst (λ w. In y (f w)) e g)
-In-flat_map f x y (z ∷ xs) (inr h) g = In-append_right (f z) (flat_map f xs) y (In-flat_map f x y xs h g)
-
-from_In-flat_map : {A B : Type 0} (f : A → List B) (y : B) (xs : List A) → In y (flat_map f xs) → (x : A) × In x xs × In y (f x)
-from_In-flat_map f y [] h = absurd h
-from_In-flat_map {A} f y (z ∷ xs) h =
-    elim (In-append (f z) (flat_map f xs) y h) as (λ _. (x : A) × In x (z ∷ xs) × In y (f x)) [
-      | inl a ↦ (z, inl refl, a)
-      | inr b ↦ let r = from_In-flat_map f y xs b in (r.0, inr r.1, r.2)
-    ]
+use Rattle.rdf_terms.proofs.MadeLists.{each-from_All, In-get_or, In-flat_map, from_In-flat_map}
+use Rattle.rdf_terms.proofs.Added.{AreDistinct-AddsAll, from_In-AddsAll, In-AddsAll}
 
 -- each node goes to the number of the label that is its name
 pub record NumbersNodes (ν : Naming) (nodes : ℕ) (labels : List Label) : Type 0 where
@@ -43,11 +30,11 @@ pub record NumbersNodes (ν : Naming) (nodes : ℕ) (labels : List Label) : Type
 module _ (ν : Naming) (nodes : ℕ) (sts : List Statement) (labels : List Label) (valid : All (IsValidStatement nodes) sts) (used : (n : ℕ) → n < nodes → IsUsed sts n)
     (own : (m n : ℕ) → m < nodes → n < nodes → ν m ≡ ν n → m ≡ n) (read : AddsAll [] (flat_map mentioned (map (written_quad ν) sts)) labels) where
   distinct : AreDistinct labels
-  distinct = AddsAll-distinct [] (flat_map mentioned (map (written_quad ν) sts)) labels read tt
+  distinct = AreDistinct-AddsAll [] (flat_map mentioned (map (written_quad ν) sts)) labels read tt
 
   each_named : (l : Label) → In l labels → IsName ν nodes l
   each_named l there =
-      elim (all_from [] (flat_map mentioned (map (written_quad ν) sts)) labels l read there) as (λ _. IsName ν nodes l) [
+      elim (from_In-AddsAll [] (flat_map mentioned (map (written_quad ν) sts)) labels l read there) as (λ _. IsName ν nodes l) [
         | inl none ↦ absurd none
         | inr i ↦
             let q = from_In-flat_map mentioned l (map (written_quad ν) sts) i in
@@ -58,7 +45,7 @@ module _ (ν : Naming) (nodes : ℕ) (sts : List Statement) (labels : List Label
   name_there : (n : ℕ) → n < nodes → In (name_label ν n) labels
   name_there n h =
       let u = used n h in
-      all_there [] (flat_map mentioned (map (written_quad ν) sts)) labels (name_label ν n) read
+      In-AddsAll [] (flat_map mentioned (map (written_quad ν) sts)) labels (name_label ν n) read
       (In-flat_map mentioned (written_quad ν u.statement) (name_label ν n) (map (written_quad ν) sts) (In-map (written_quad ν) sts u.statement u.there) (quad_label ν n u.statement u.mentioned))
 
   -- the nodes that the labels are the names of
@@ -102,13 +89,8 @@ module _ (ν : Naming) (nodes : ℕ) (sts : List Statement) (labels : List Label
   counted : ListsNodes nodes (numbers_below nodes)
   counted = record {
     distinct = AreDistinct-numbers_below nodes;
-    all = λ n. (In-numbers_below nodes n, there n);
+    all = λ n. (from_In-numbers_below nodes n, In-numbers_below nodes n);
   }
-    where
-      there : (n : ℕ) → n < nodes → In n (numbers_below nodes)
-      there n h =
-          let within : n < length (numbers_below nodes) = omega (arith, length-numbers_below nodes) in
-          subst (λ m. In m (numbers_below nodes)) (get_or-numbers_below nodes n h) (In-get_or (numbers_below nodes) n within)
 
   as_many : length by_label.list ≡ nodes
   as_many = length-listed nodes by_label.list listed

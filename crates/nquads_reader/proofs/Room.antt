@@ -16,6 +16,7 @@ use Rattle.nquads_reader.specs.Grammar.{IsWhiteThen, BeginsWithResource, BeginsW
 use Rattle.nquads_reader.specs.Document.{IsFaultless, quads_in, labels_of_resource, labels_of_object, labels_of_graph_name, mentioned, IsStatementOf}
 use Rattle.nquads_reader.specs.Reading.{Appends, TakesQuads}
 use Rattle.nquads_reader.proofs.TerminalFacts.{iri_room, label_room, string_room, tag_room}
+use Rattle.rdf_terms.proofs.Membership.{length-adds}
 
 white_room : (text rest : Text) → IsWhiteThen text rest → length rest ≤ length text
 white_room text rest w = omega (arith, ap length w.spelled, length-append w.white rest)
@@ -51,13 +52,9 @@ statement_room line q h = omega (
   ap length h.ends.dot,
 )
 
-added_room : {A : Type 0} (old : List A) (x : A) (new : List A) → Adds old x new → length new ≤ length old + 1
-added_room old x new (inl p) = omega (arith, ap length p.0)
-added_room old x new (inr p) = omega (arith, ap length p.0, length-append old (x ∷ []))
-
-all_room : {A : Type 0} (old xs new : List A) → AddsAll old xs new → length new ≤ length old + length xs
+pub all_room : {A : Type 0} (old xs new : List A) → AddsAll old xs new → length new ≤ length old + length xs
 all_room old [] new h = omega (arith, ap length h)
-all_room old (x ∷ xs) new h = omega (arith, added_room old x h.0 h.1, all_room h.0 xs new h.2)
+all_room old (x ∷ xs) new h = omega (arith, length-adds old x h.0 h.1, all_room h.0 xs new h.2)
 
 resource_labels : (r : Resource) → length (labels_of_resource r) ≤ 1
 resource_labels (Iri iri) = omega arith

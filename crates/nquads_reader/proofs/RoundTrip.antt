@@ -8,7 +8,7 @@ use Rattle.rdf_terms.specs.Dataset.{Dataset, IsValid, IsUsed}
 use Rattle.rdf_terms.specs.Isomorphism.{Relabelling, relabel_statement}
 use Rattle.rdf_terms.specs.CanonicalForm.{Naming, canonical_line, canonical_nquads}
 use Rattle.rdf_terms.specs.declared.term.Label.{Label}
-use Rattle.rdf_terms.proofs.Finishing.{All-from_each, each-from_All, AreDistinct-map, relabel_statement-injective}
+use Rattle.rdf_terms.proofs.Finishing.{relabel_statement-injective}
 use Rattle.rdf_terms.proofs.Permutations.{In-Permutes, Permutes-sym, Permutes-map, AreDistinct-Permutes}
 use Rattle.rdf_terms.proofs.SameTerm.{labels_tell}
 use Rattle.rdf_terms.proofs.SortedTexts.{sorted-permutes}
@@ -24,6 +24,7 @@ use Rattle.nquads_reader.proofs.WrittenQuads.{written_quad}
 use Rattle.nquads_reader.proofs.WrittenLines.{lines_state}
 use Rattle.nquads_reader.proofs.NumberedNames.{plain_names, no_empty_name, own_names}
 use Rattle.nquads_reader.proofs.ReadStatements.{statements_moved}
+use Rattle.rdf_terms.proofs.MadeLists.{All-from_each, each-from_All, AreDistinct-map}
 
 module _ (D : Dataset) (ν : Naming) (v : IsValid D) (numbered : IsNumbered D.nodes ν) where
   -- the statements in the order of their lines

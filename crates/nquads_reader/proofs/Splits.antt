@@ -5,8 +5,8 @@ use Rattle.std.proofs.lemmas.List.Elements.{All-from_get_or}
 use Rattle.std.proofs.lemmas.Bool.{false_from_ne_true}
 use Rattle.rdf_terms.specs.Lists.{Text}
 use Rattle.nquads_reader.specs.Pieces.{is_line_end, IsEnded, ends_with_cr, IsCut}
-use Rattle.nquads_reader.proofs.LineEnds.{rest_all}
 use Rattle.nquads_reader.proofs.Cuts.{ends_with_cr-append}
+use Rattle.rdf_terms.proofs.MadeLists.{rest_all}
 
 -- ---- the last line end
 

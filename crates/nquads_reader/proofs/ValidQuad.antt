@@ -2,7 +2,7 @@
 use Rattle.std.proofs.Common.{◌≡◌, ℕ, ◌<◌, Bool, true, false, not, nat_lt, List, [], ◌∷◌, Option, Some, None, IfSome, All, inl, inr, sym, subst, refl, true≢false}
 use Rattle.std.specs.List.{list_all}
 use Rattle.std.specs.Str.{IsUtf8}
-use Rattle.std.proofs.lemmas.Bool.{ltb-true}
+use Rattle.std.proofs.lemmas.Bool.{ltb-true, not-true}
 use Rattle.std.proofs.lemmas.Str.{IsUtf8-from_ascii}
 use Rattle.std.proofs.lemmas.Str.Ascii.{IsAscii-from_all}
 use Rattle.std.proofs.lemmas.List.Elements.{All-weaker, All-nil, All-cons, All-append}
@@ -26,17 +26,10 @@ use Rattle.terminals.proofs.Facts.{iri_absolute, tag_is, string_utf8}
 iri_valid : (text iri rest : Text) → BeginsWithIri text iri rest → HasScheme iri → IsAbsoluteIri iri
 iri_valid text iri rest h scheme = iri_absolute text iri rest h scheme
 
-not_excluded : (c : ℕ) → not (is_excluded c) ≡ true → is_excluded c ≡ false
-not_excluded c h = by (is_excluded c) h
-  where
-    by : (b : Bool) → not b ≡ true → b ≡ false
-    by true e = absurd (true≢false (sym e))
-    by false e = refl
-
 xsd_allowed : All (λ c. is_excluded c ≡ false) xsd_string
 xsd_allowed =
     let tested : list_all (λ c. not (is_excluded c)) xsd_string ≡ true = refl in
-    All-weaker (λ c. not (is_excluded c) ≡ true) (λ c. is_excluded c ≡ false) not_excluded xsd_string (AllPass-from_list_all (λ c. not (is_excluded c)) xsd_string tested)
+    All-weaker (λ c. not (is_excluded c) ≡ true) (λ c. is_excluded c ≡ false) (λ c. not-true (is_excluded c)) xsd_string (AllPass-from_list_all (λ c. not (is_excluded c)) xsd_string tested)
 
 xsd_utf8 : IsUtf8 xsd_string
 xsd_utf8 =

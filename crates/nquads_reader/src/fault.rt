@@ -3,6 +3,8 @@ ghost use Rattle.std.specs.Prelude.{◌≡◌};
 ghost use Rattle.nquads_reader.specs.declared.fault.ReadFault.TheVariants.{NoMemory as Memory};
 
 use rdf_terms::NoMemory;
+use std::error::Error;
+use std::fmt;
 
 /// Why a document was not read. A line is given by its number, counted from 1, and is the first
 /// one with any fault.
@@ -26,3 +28,17 @@ impl From<NoMemory> for ReadFault {
         ReadFault::NoMemory
     }
 }
+
+impl fmt::Display for ReadFault {
+    fn fmt<W: fmt::Write>(&self, f: &mut fmt::Formatter<W>) -> fmt::Result {
+        match self {
+            ReadFault::NotUtf8 { line } => write!(f, "line {line} is not UTF-8"),
+            ReadFault::BadLine { line } => write!(f, "line {line} is not in the grammar"),
+            ReadFault::RelativeIri { line } => write!(f, "line {line} has an IRI without a scheme"),
+            ReadFault::TooManyQuads => f.write_str("too many quads"),
+            ReadFault::NoMemory => f.write_str("out of memory"),
+        }
+    }
+}
+
+impl Error for ReadFault {}

@@ -1,9 +1,10 @@
 //! What holds of documents, whatever reads them.
-ghost use Rattle.std.specs.Prelude.{◌≡◌, ◌≢◌, ◌≤◌, List, length};
-ghost use Rattle.rdf_terms.specs.Terms.{Statement};
-ghost use Rattle.rdf_terms.specs.Lists.{Text};
+ghost use Rattle.std.specs.Prelude.{◌≡◌, ◌≢◌, ℕ, ◌<◌, ◌≤◌, List, All, map, length};
+ghost use Rattle.rdf_terms.specs.Terms.{Statement, IsValidStatement};
+ghost use Rattle.rdf_terms.specs.Lists.{Text, joined};
 ghost use Rattle.rdf_terms.specs.Dataset.{Dataset, IsValid};
-ghost use Rattle.rdf_terms.specs.CanonicalForm.{Naming, canonical_nquads};
+ghost use Rattle.rdf_terms.specs.CanonicalForm.{Naming, canonical_line, canonical_nquads};
+ghost use Rattle.canonical_writer.specs.Determined.{HasPlainNames};
 ghost use Rattle.rdf_terms.specs.declared.term.Label.{Label};
 ghost use Rattle.nquads_reader.specs.Document.{IsNQuads, IsCauseOf};
 ghost use Rattle.nquads_reader.specs.RoundTrip.{IsNumbered, ReadsBack};
@@ -27,6 +28,11 @@ pub fn document_is_determined()
 /// Why bytes are not read is one thing, unless memory was refused.
 pub fn cause_is_determined()
     ensures { (bytes : Text) (cause other : ReadFault) → IsCauseOf bytes cause → IsCauseOf bytes other → cause ≢ NoMemory → other ≢ NoMemory → cause ≡ other }
+{}
+
+/// The canonical lines of valid statements within the limit, under names of letters and digits, are read, unless memory is refused.
+pub fn canonical_lines_have_no_cause()
+    ensures { (ν : Naming) (nodes : ℕ) (sts : List Statement) → HasPlainNames nodes ν → ((n : ℕ) → n < nodes → 0 < length (ν n)) → All (IsValidStatement nodes) sts → length sts ≤ MAX_QUADS → (cause : ReadFault) → IsCauseOf (joined (map (canonical_line ν) sts)) cause → cause ≡ NoMemory }
 {}
 
 /// Bytes that are N-Quads within the limit are read, unless memory is refused.

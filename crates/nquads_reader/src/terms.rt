@@ -11,12 +11,9 @@ use crate::quad::{Object, Resource};
 use crate::stated_literal::{StatedLiteral, Suffix};
 use crate::stated_text::StatedText;
 use crate::white::after_white;
-use rdf_terms::NoMemory;
+use rdf_terms::{NoMemory, xsd};
 use std::alloc::Global;
 use terminals::{Grammar, Quote, Spelling, after, blank_node_label, iriref, langtag, short_string};
-
-// The datatype of a string with no suffix (RDF 1.1 Concepts, section 3.3).
-const XSD_STRING: &str = "http://www.w3.org/2001/XMLSchema#string";
 
 // The characters that are spelled.
 #[inline(always)]
@@ -101,7 +98,8 @@ fn suffix(alloc: Global, text: &str) -> Result<Option<(Suffix<'_>, &str)>, NoMem
     ensures { IfOk result (Reads (λ x. (suffix_kind x.0, x.1.now)) (BeginsWithSuffix text.now)) }
 {
     if has_no_suffix(text) {
-        let datatype = StatedText::of_line(XSD_STRING);
+        // RDF 1.1 Concepts, section 3.3
+        let datatype = StatedText::of_line(xsd::STRING);
         return Ok(Some((Suffix::Datatype(datatype), text)));
     }
     if let Some((tag, rest)) = tag(text) {
