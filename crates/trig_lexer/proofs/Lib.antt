@@ -22,3 +22,5 @@ pub mod AllKinds
 pub mod Places
 pub mod Spelled
 pub mod LocalParts
+mod OneKind
+pub mod OneToken

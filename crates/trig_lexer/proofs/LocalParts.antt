@@ -18,8 +18,8 @@ use Rattle.terminals.proofs.Labelling.{all_append}
 use Rattle.trig_lexer.specs.declared.parts.Part.TheVariants.{Local}
 use Rattle.trig_lexer.specs.declared.parts.Place.{Place}
 use Rattle.trig_lexer.specs.declared.parts.Place.TheVariants.{First, Later}
-use Rattle.trig_lexer.specs.Names.{takes, escaped_in_local, IsPercent, IsLocalEscape, IsPlx, IsEscapeIn, IsPiece, GoesOnAsPart, IsPart, IsPnameNs, IsPnameLn, unescaped, unescaped_behind}
-use Rattle.trig_lexer.proofs.Naming.{HasNoColon, prefix_no_colon}
+use Rattle.trig_lexer.specs.Names.{takes, escaped_in_local, IsPlx, IsPiece, GoesOnAsPart, IsPart, IsPnameNs, IsPnameLn, unescaped, unescaped_behind}
+use Rattle.trig_lexer.proofs.Naming.{prefix_no_colon}
 
 -- ---- bytes of characters
 

@@ -2,13 +2,14 @@
 #![tactic(auto)]
 
 pub use kind::Kind;
-pub use token::{Token, next_token};
+pub use token::{Token, next_token, token_start};
 
 mod all_kinds;
 mod anon;
 mod at_words;
 mod found;
 mod kind;
+pub mod laws;
 mod longer;
 mod marks;
 mod name;
