@@ -1,0 +1,5 @@
+pub mod Names
+pub mod Growth
+pub mod Putting
+pub mod Items
+pub mod Meanings

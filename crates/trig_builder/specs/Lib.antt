@@ -1,0 +1,4 @@
+pub mod Numbered
+pub mod Telling
+pub mod Prefixes
+pub mod Building

@@ -1,0 +1,16 @@
+pub mod Tests
+pub mod Computed
+pub mod Replacing
+pub mod Predicting
+pub mod Standing
+pub mod Steps
+pub mod Exactness
+pub mod Alternatives
+pub mod Factoring
+pub mod Firsts
+pub mod RightSides
+pub mod Coming
+pub mod Follows
+pub mod Progress
+pub mod Ending
+pub mod Halves

@@ -1,0 +1,8 @@
+pub mod Grammar
+pub mod Places
+pub mod Beginnings
+pub mod Table
+pub mod Ranks
+pub mod Stack
+pub mod Published
+pub mod Reach
