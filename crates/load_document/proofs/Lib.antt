@@ -1,0 +1,5 @@
+pub mod Parts
+pub mod Whole
+pub mod Statements
+pub mod Sizes
+pub mod NoFault

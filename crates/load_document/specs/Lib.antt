@@ -1,0 +1,2 @@
+pub mod LoadDocument
+pub mod Readable
