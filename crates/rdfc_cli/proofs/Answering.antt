@@ -1,23 +1,26 @@
 -- From what a command did to what a run answers.
-use Rattle.std.proofs.Common.{◌≡◌, ℕ, List, Option, Some, None, IfSome, Result, Ok, Err, IfOk, IfErr, refl, sym, subst}
+use Rattle.std.proofs.Common.{◌≡◌, ℕ, ◌≤◌, List, Option, Some, None, IfSome, Result, Ok, Err, IfOk, IfErr, inl, inr, refl, sym, ap, subst, arith}
 use Rattle.std.specs.Io.KnownBytes.{Appends}
 use Rattle.rdf_terms.specs.Lists.{Text}
 use Rattle.rdf_terms.specs.Document.{Document, dataset}
 use Rattle.outside.specs.Faults.{Rose}
-use Rattle.canon_model.specs.Output.{PassesLimit}
-use Rattle.rdfc_cli.specs.Answers.{Content, Accepts, FileSeen, IfAccepted, IsRunText, IsWritten, Stops, Answers, hashing_of}
+use Rattle.load_document.specs.LoadDocument.{load_document}
+use Rattle.rdfc_cli.specs.Answers.{Content, Accepts, FileSeen, IsCause, IfAccepted, AreBothAccepted, IsPast, IsRunText, IsWritten, Stops, Answers}
 use Rattle.rdfc_cli.specs.Reports.{IsTextOf}
 use Rattle.rdfc_cli.specs.FileFaults.{content_of, IsFileFault, IsFaultStatus}
-use Rattle.rdfc_cli.specs.Outputs.{IsTaskOutput, IsRunStop, Delivers}
+use Rattle.rdfc_cli.specs.Forms.{IsPairOutput, IsPairStop}
+use Rattle.rdfc_cli.specs.Outputs.{IsTaskOutput, IsSummaryOutput, IsRunStop, IsLeanOutput, IsLeanEnd, Delivers}
+use Rattle.rdfc_cli.specs.Leaning.{IsLeaning, HasGraphName, IsPastMaps}
 use Rattle.rdfc_cli.specs.Words.{Command}
-use Rattle.rdfc_cli.specs.Words.Command.{on_file}
-use Rattle.rdfc_cli.specs.declared.dataset_file.FileFault.{FileFault}
-use Rattle.rdfc_cli.specs.declared.dataset_file.FileFault.TheVariants.{Failed, Refused as RefusedFile, NoMemory as NoMemoryForFile}
+use Rattle.rdfc_cli.specs.Words.Command.{on_file, compare, lean, load}
+use Rattle.rdfc_cli.specs.declared.files.FileFault.{FileFault}
+use Rattle.rdfc_cli.specs.declared.files.FileFault.TheVariants.{Failed, Refused as RefusedFile, NoMemory as NoMemoryForFile}
 use Rattle.rdfc_cli.specs.declared.options.Settings.{Settings}
 use Rattle.rdfc_cli.specs.declared.output.Output.{Output}
 use Rattle.rdfc_cli.specs.declared.words.Task.{Task}
+use Rattle.rdfc_cli.specs.declared.status.Refusal.{Refusal}
 use Rattle.rdfc_cli.specs.declared.status.Status.{Status}
-use Rattle.rdfc_cli.specs.declared.status.Status.TheVariants.{Done, Usage, Unsettled, Refused, ReadFault, WriteFault, WorkLimit, NoMemory}
+use Rattle.rdfc_cli.specs.declared.status.Status.TheVariants.{Done, Different, Usage, Unsettled, Refused, ReadFault, WriteFault, WorkLimit, NoMemory, Undecided, SearchLimit}
 
 -- ---- a file that is told is accepted
 
@@ -33,21 +36,115 @@ if_accepted file d Fact a f = if_told file.told d Fact a f
 module _ (file : Text → FileSeen) (task : Task) (word : Text) (settings : Settings) where
   pub stops-file_fault : (fault : FileFault) (status : Status) → IsFileFault (file word) fault → IsFaultStatus fault 0 status → Stops file (on_file task word) settings status
   stops-file_fault Failed status f e = subst (Stops file (on_file task word) settings) (sym e) (refl, f)
-  stops-file_fault (RefusedFile cause) status f e = subst (Stops file (on_file task word) settings) (sym e) (refl, f)
+  stops-file_fault (RefusedFile cause) status f e = subst (Stops file (on_file task word) settings) (sym e) (inl (refl, f))
   stops-file_fault NoMemoryForFile status f e = subst (Stops file (on_file task word) settings) (sym e) tt
 
   pub stops-run : (d : Document) (status : Status) → IfSome (file word).told (λ t. Accepts t (content_of d)) → IsRunStop settings d status → Stops file (on_file task word) settings status
   stops-run d Done a s = absurd s
+  stops-run d Different a s = absurd s
   stops-run d Usage a s = absurd s
   stops-run d (Unsettled tie) a s = absurd s
   stops-run d (Refused refusal) a s = absurd s
   stops-run d (ReadFault place) a s = absurd s
   stops-run d WriteFault a s = absurd s
-  stops-run d (WorkLimit place limit) a s = (s.1, (s.0, if_accepted (file word) d (λ content. PassesLimit (hashing_of settings) content.dataset settings.limit) a s.2))
+  stops-run d (WorkLimit place limit) a s = (s.1, (s.0, if_accepted (file word) d (λ content. IsPast settings content.dataset) a s.2))
   stops-run d NoMemory a s = tt
+  stops-run d (Undecided t u) a s = absurd s
+  stops-run d (SearchLimit limit image) a s = absurd s
 
   pub written : (d : Document) (output : Output) → IfSome (file word).told (λ t. Accepts t (content_of d)) → IsTaskOutput task settings d output → IsWritten file (on_file task word) settings output.unsettled output.text
   written d output a o = if_accepted (file word) d (λ content. IsRunText settings output.unsettled (λ ρ. IsTextOf task ρ content.dataset content.labels) content.dataset output.text) a o
+
+-- ---- two files
+
+-- what a later look at the file says of a fault, an earlier one says too
+pub fault-seen_before : (file later : FileSeen) (fault : FileFault) → later.told ≡ file.told → file.faults ≤ later.faults → later.faults_now ≡ file.faults_now → IsFileFault later fault → IsFileFault file fault
+fault-seen_before file later Failed told before now f = omega (arith, f)
+fault-seen_before file later (RefusedFile cause) told before now f = subst (λ t. IfSome t (λ bytes. IsCause bytes cause)) told f
+fault-seen_before file later NoMemoryForFile told before now f = tt
+
+-- a file of which more is known than that it is accepted
+pub if_accepted-form : (file : FileSeen) (content : Content) → IfSome file.told (λ t. Accepts t content) → IfAccepted file (λ content. Unit {0})
+if_accepted-form file content a = by file.told a
+  where
+    by : (told : Option Text) → IfSome told (λ t. Accepts t content) → IfSome told (λ bytes. (content : Content) × Accepts bytes content × Unit {0})
+    by None a = tt
+    by (Some t) a = (content, a, tt)
+
+module _ (file : Text → FileSeen) (first second : Text) (settings : Settings) where
+  pub stops-first_fault : (fault : FileFault) (status : Status) → IsFileFault (file first) fault → IsFaultStatus fault 0 status → Stops file (compare first second) settings status
+  stops-first_fault Failed status f e = subst (Stops file (compare first second) settings) (sym e) (inl (refl, f))
+  stops-first_fault (RefusedFile cause) status f e = subst (Stops file (compare first second) settings) (sym e) (inl (inl (refl, f)))
+  stops-first_fault NoMemoryForFile status f e = subst (Stops file (compare first second) settings) (sym e) tt
+
+  pub stops-second_fault : (fault : FileFault) (status : Status) → IfAccepted (file first) (λ content. Unit {0}) → IsFileFault (file second) fault → IsFaultStatus fault 1 status → Stops file (compare first second) settings status
+  stops-second_fault Failed status a f e = subst (Stops file (compare first second) settings) (sym e) (inr (refl, a, f))
+  stops-second_fault (RefusedFile cause) status a f e = subst (Stops file (compare first second) settings) (sym e) (inl (inr (refl, a, f)))
+  stops-second_fault NoMemoryForFile status a f e = subst (Stops file (compare first second) settings) (sym e) tt
+
+  module _ (content other : Content) (accepts : IfSome (file first).told (λ t. Accepts t content)) (accepts_other : IfSome (file second).told (λ t. Accepts t other)) where
+    both : (Fact : Content → Content → Type 0) → Fact content other → AreBothAccepted (file first) (file second) Fact
+    both Fact f = record { content = content; other = other; accepts = accepts; accepts_other = accepts_other; fact = f }
+
+    pub written-pair : (output : Output) → IsPairOutput settings content other output → IsWritten file (compare first second) settings output.unsettled output.text
+    written-pair output o = (o.none_unsettled, both _ o.pairing)
+
+    pub stops-pair : (status : Status) → IsPairStop settings content other status → Stops file (compare first second) settings status
+    stops-pair Done s = absurd s
+    stops-pair Different s = both _ s
+    stops-pair Usage s = absurd s
+    stops-pair (Unsettled tie) s = absurd s
+    stops-pair (Refused refusal) s = absurd s
+    stops-pair (ReadFault place) s = absurd s
+    stops-pair WriteFault s = absurd s
+    stops-pair (WorkLimit place limit) s = (s.0, both _ s.1)
+    stops-pair NoMemory s = tt
+    stops-pair (Undecided t u) s = both _ s
+    stops-pair (SearchLimit limit image) s = absurd s
+
+-- ---- a graph that is leaned
+
+module _ (file : Text → FileSeen) (word : Text) (settings : Settings) where
+  pub stops-graph_fault : (fault : FileFault) (status : Status) → IsFileFault (file word) fault → IsFaultStatus fault 0 status → Stops file (lean word) settings status
+  stops-graph_fault Failed status f e = subst (Stops file (lean word) settings) (sym e) (refl, f)
+  stops-graph_fault (RefusedFile cause) status f e = subst (Stops file (lean word) settings) (sym e) (inl (refl, f))
+  stops-graph_fault NoMemoryForFile status f e = subst (Stops file (lean word) settings) (sym e) tt
+
+  pub stops-graph : (d : Document) (status : Status) → IfSome (file word).told (λ t. Accepts t (content_of d)) → IsLeanEnd settings d status → Stops file (lean word) settings status
+  stops-graph d Done a s = absurd s
+  stops-graph d Different a s = absurd s
+  stops-graph d Usage a s = absurd s
+  stops-graph d (Unsettled tie) a s = absurd s
+  stops-graph d (Refused refusal) a s =
+      inr (ap (λ (r : Refusal). r.cause) s.0, ap (λ (r : Refusal). r.file) s.0, if_accepted (file word) d (λ content. HasGraphName content.dataset.statements) a s.1)
+  stops-graph d (ReadFault place) a s = absurd s
+  stops-graph d WriteFault a s = absurd s
+  stops-graph d (WorkLimit place limit) a s = absurd s
+  stops-graph d NoMemory a s = tt
+  stops-graph d (Undecided t u) a s = absurd s
+  stops-graph d (SearchLimit limit image) a s = (s.0, if_accepted (file word) d (λ content. IsPastMaps content.dataset settings.limit image) a s.1)
+
+  pub written-graph : (d : Document) (output : Output) → IfSome (file word).told (λ t. Accepts t (content_of d)) → IsLeanOutput settings d output → IsWritten file (lean word) settings output.unsettled output.text
+  written-graph d output a o = (o.0, if_accepted (file word) d (λ content. IsLeaning settings.map content.dataset output.text) a o.1)
+
+-- ---- a document that is made
+
+module _ (file : Text → FileSeen) (n : ℕ) (settings : Settings) (d : Document) (accepts : Accepts (load_document n) (content_of d)) where
+  pub written-made : (output : Output) → IsSummaryOutput settings d output → IsWritten file (load n) settings output.unsettled output.text
+  written-made output o = (content_of d, accepts, o)
+
+  pub stops-made : (status : Status) → IsRunStop settings d status → Stops file (load n) settings status
+  stops-made Done s = absurd s
+  stops-made Different s = absurd s
+  stops-made Usage s = absurd s
+  stops-made (Unsettled tie) s = absurd s
+  stops-made (Refused refusal) s = absurd s
+  stops-made (ReadFault place) s = absurd s
+  stops-made WriteFault s = absurd s
+  stops-made (WorkLimit place limit) s = (s.1, (s.0, (content_of d, accepts, s.2)))
+  stops-made (SearchLimit limit image) s = absurd s
+  stops-made NoMemory s = tt
+  stops-made (Undecided t u) s = absurd s
 
 -- ---- results
 
@@ -65,6 +162,7 @@ module _ {K : Type 0} (taken : K → Option Text) (faults : K → ℕ) (file : T
   pub answers-delivered : (old new : K) (output : Output) (status : Status) → Delivers (taken old) (taken new) output status → (status ≡ WriteFault → Rose (faults old) (faults new))
       → IsWritten file command settings output.unsettled output.text → Answers taken faults file command settings old new status
   answers-delivered old new output Done d rose w = (output.text, d.1, subst (λ found. IsWritten file command settings found output.text) d.0 w)
+  answers-delivered old new output Different d rose w = absurd d
   answers-delivered old new output Usage d rose w = absurd d
   answers-delivered old new output (Unsettled tie) d rose w = (output.text, d.1, subst (λ found. IsWritten file command settings found output.text) d.0 w)
   answers-delivered old new output (Refused refusal) d rose w = absurd d
@@ -72,9 +170,12 @@ module _ {K : Type 0} (taken : K → Option Text) (faults : K → ℕ) (file : T
   answers-delivered old new output WriteFault d rose w = (rose refl, (output.text, output.unsettled, d, w))
   answers-delivered old new output (WorkLimit place limit) d rose w = absurd d
   answers-delivered old new output NoMemory d rose w = absurd d
+  answers-delivered old new output (Undecided s t) d rose w = absurd d
+  answers-delivered old new output (SearchLimit limit image) d rose w = absurd d
 
   pub answers-stopped : (old : K) (status : Status) → Stops file command settings status → Answers taken faults file command settings old old status
   answers-stopped old Done s = absurd s
+  answers-stopped old Different s = (refl, s)
   answers-stopped old Usage s = absurd s
   answers-stopped old (Unsettled tie) s = absurd s
   answers-stopped old (Refused refusal) s = (refl, s)
@@ -82,6 +183,8 @@ module _ {K : Type 0} (taken : K → Option Text) (faults : K → ℕ) (file : T
   answers-stopped old WriteFault s = absurd s
   answers-stopped old (WorkLimit place limit) s = (refl, s)
   answers-stopped old NoMemory s = (refl, s)
+  answers-stopped old (Undecided t u) s = (refl, s)
+  answers-stopped old (SearchLimit limit image) s = (refl, s)
 
   pub never_usage : (old new : K) (status : Status) → Answers taken faults file command settings old new status → ¬ (status ≡ Usage)
   never_usage old new status a e = (subst (Answers taken faults file command settings old new) e a).1

@@ -1,16 +1,19 @@
 -- Commands as words: some words spell at most one command, with one list of options.
-use Rattle.std.proofs.Common.{◌≡◌, ℕ, List, [], ◌∷◌, ◌++◌, codes, get_or, if◌then◌else◌, ◌==◌, refl, sym, ap, ◌∙◌, subst}
+use Rattle.std.proofs.Common.{◌≡◌, ℕ, true≢false, arith, List, [], ◌∷◌, ◌++◌, codes, get_or, inl, inr, if◌then◌else◌, ◌==◌, refl, sym, ap, ◌∙◌, subst, true, false}
 use Rattle.std.specs.Prelude.{flat_map}
-use Rattle.rdf_terms.specs.Lists.{Text}
+use Rattle.rdf_terms.specs.Lists.{Text, In}
+use Rattle.rdf_terms.specs.Numeral.{numeral}
+use Rattle.rdf_terms.proofs.Numerals.{IsDigit, In-numeral, numeral-injective}
 use Rattle.rdfc_cli.specs.Words.{Command, Given, task_word, command_word, operands, spelled_option, name_word, HasGoodOperands, TakesOption, IsCommand, IsNoCommand, settings_in}
-use Rattle.rdfc_cli.specs.Words.Command.{on_file}
-use Rattle.rdfc_cli.specs.Options.{BeginsNoOption, BeginsWithOptions, AreOptions, AreNoOptions}
+use Rattle.rdfc_cli.specs.Words.Command.{on_file, compare, lean, load}
+use Rattle.rdfc_cli.specs.Words.Given.{limit, hash, related, as_map}
+use Rattle.rdfc_cli.specs.Options.{options_in, AreTaken, BeginsNoOption, BeginsWithOptions, AreOptions, AreNoOptions}
 use Rattle.rdfc_cli.specs.Requests.{command_of, IsRequest, IsSpelled}
 use Rattle.rdfc_cli.specs.declared.words.Request.{Request}
 use Rattle.rdfc_cli.specs.declared.options.Settings.{Settings}
 use Rattle.rdfc_cli.specs.declared.options.Options.{Options}
 use Rattle.rdfc_cli.specs.declared.options.OptionName.{OptionName}
-use Rattle.rdfc_cli.specs.declared.options.OptionName.TheVariants.{Limit, Hash, Related}
+use Rattle.rdfc_cli.specs.declared.options.OptionName.TheVariants.{Limit, Hash, Related, Map as MapName}
 use Rattle.rdfc_cli.specs.declared.words.Task.{Task}
 use Rattle.rdfc_cli.specs.declared.words.Task.TheVariants.{Canon, Hash as HashTask, Map, Ties}
 use Rattle.rdfc_cli.proofs.OptionWords.{head_same, tail_same, not_empty, same_options}
@@ -29,23 +32,126 @@ task_of_word Ties = refl
 task_word-injective : (s t : Task) → task_word s ≡ task_word t → s ≡ t
 task_word-injective s t e = sym (task_of_word s) ∙ ap (λ w. task_at (get_or w 0 0)) e ∙ task_of_word t
 
+-- two words with different bytes at this place
+differ_at : (i byte : ℕ) (s t : Text) → (get_or s i 0 == byte) ≡ true → (get_or t i 0 == byte) ≡ false → ¬ (s ≡ t)
+differ_at i byte s t a b e = true≢false (sym a ∙ ap (λ w. get_or w i 0 == byte) e ∙ b)
+
+no_lean : (t : Task) → ¬ (task_word t ≡ codes "lean")
+no_lean Canon e = differ_at 0 99 (codes "canon") (codes "lean") refl refl e
+no_lean HashTask e = differ_at 0 104 (codes "hash") (codes "lean") refl refl e
+no_lean Map e = differ_at 0 109 (codes "map") (codes "lean") refl refl e
+no_lean Ties e = differ_at 0 116 (codes "ties") (codes "lean") refl refl e
+
+no_load : (t : Task) → ¬ (task_word t ≡ codes "load")
+no_load Canon e = differ_at 0 99 (codes "canon") (codes "load") refl refl e
+no_load HashTask e = differ_at 0 104 (codes "hash") (codes "load") refl refl e
+no_load Map e = differ_at 0 109 (codes "map") (codes "load") refl refl e
+no_load Ties e = differ_at 0 116 (codes "ties") (codes "load") refl refl e
+
+lean_no_load : ¬ (codes "lean" ≡ codes "load")
+lean_no_load e = differ_at 1 101 (codes "lean") (codes "load") refl refl e
+
 same_command : (c d : Command) → command_word c ≡ command_word d → operands c ≡ operands d → c ≡ d
 same_command (on_file s f) (on_file t g) w o =
     let file = head_same f g [] [] o in
     λ i. on_file (task_word-injective s t w i) (file i)
+same_command (on_file s f) (compare g h) w o = absurd (not_empty h [] (tail_same f g [] (h ∷ []) o))
+same_command (compare f h) (on_file t g) w o = absurd (not_empty h [] (sym (tail_same f g (h ∷ []) [] o)))
+same_command (compare f g) (compare h k) w o =
+    let first = head_same f h (g ∷ []) (k ∷ []) o in
+    let second = head_same g k [] [] (tail_same f h (g ∷ []) (k ∷ []) o) in
+    λ i. compare (first i) (second i)
+same_command (on_file t f) (lean g) w o = absurd (no_lean t w)
+same_command (lean f) (on_file t g) w o = absurd (no_lean t (sym w))
+same_command (compare f h) (lean g) w o = absurd (not_empty h [] (sym (tail_same f g (h ∷ []) [] o)))
+same_command (lean f) (compare g h) w o = absurd (not_empty h [] (tail_same f g [] (h ∷ []) o))
+same_command (lean f) (lean g) w o = ap lean (head_same f g [] [] o)
+same_command (on_file t f) (load n) w o = absurd (no_load t w)
+same_command (load n) (on_file t g) w o = absurd (no_load t (sym w))
+same_command (compare f h) (load n) w o = absurd (not_empty h [] (sym (tail_same f (numeral n) (h ∷ []) [] o)))
+same_command (load n) (compare g h) w o = absurd (not_empty h [] (tail_same (numeral n) g [] (h ∷ []) o))
+same_command (lean f) (load n) w o = absurd (lean_no_load w)
+same_command (load n) (lean f) w o = absurd (lean_no_load (sym w))
+same_command (load m) (load n) w o = ap load (numeral-injective m n (head_same (numeral m) (numeral n) [] [] o))
 
 dash_first : (name : OptionName) (b : ℕ) (bs : Text) → b ∷ bs ≡ name_word name → b ≡ 45
 dash_first Limit b bs e = ap (λ w. get_or w 0 0) e
 dash_first Hash b bs e = ap (λ w. get_or w 0 0) e
 dash_first Related b bs e = ap (λ w. get_or w 0 0) e
+dash_first MapName b bs e = ap (λ w. get_or w 0 0) e
 
 -- the operands of a command begin with no option's name
 operands_no_option : (c : Command) → HasGoodOperands c → BeginsNoOption (operands c)
 operands_no_option (on_file t []) good = absurd good
 operands_no_option (on_file t (b ∷ bs)) good = λ name e. good (dash_first name b bs e)
+operands_no_option (compare [] second) good = absurd good.0
+operands_no_option (compare (b ∷ bs) second) good = λ name e. good.0 (dash_first name b bs e)
+operands_no_option (lean []) good = absurd good
+operands_no_option (lean (b ∷ bs)) good = λ name e. good (dash_first name b bs e)
+operands_no_option (load n) good = λ name e. no_digit (In-numeral n 45 (subst (In 45) (sym e) (begins_with_dash name)))
+  where
+    begins_with_dash : (name : OptionName) → In 45 (name_word name)
+    begins_with_dash Limit = inl refl
+    begins_with_dash Hash = inl refl
+    begins_with_dash Related = inl refl
+    begins_with_dash MapName = inl refl
 
-takes_option : (c : Command) (g : Given) → TakesOption c g
-takes_option (on_file t f) g = tt
+    no_digit : ¬ (IsDigit 45)
+    no_digit d = omega (arith, d.0, d.1)
+
+-- the command takes each of the options, where it takes what they set
+takes_options : (c : Command) (given : List Given) → AreTaken c (options_in given) → (g : Given) → In g given → TakesOption c g
+takes_options (on_file t f) [] taken g i = absurd i
+takes_options (on_file t f) (limit n ∷ gs) taken g (inl e) = subst (TakesOption (on_file t f)) (sym e) tt
+takes_options (on_file t f) (limit n ∷ gs) taken g (inr i) = takes_options (on_file t f) gs taken g i
+takes_options (on_file t f) (hash k ∷ gs) taken g (inl e) = subst (TakesOption (on_file t f)) (sym e) tt
+takes_options (on_file t f) (hash k ∷ gs) taken g (inr i) = takes_options (on_file t f) gs taken g i
+takes_options (on_file t f) (related r ∷ gs) taken g (inl e) = subst (TakesOption (on_file t f)) (sym e) tt
+takes_options (on_file t f) (related r ∷ gs) taken g (inr i) = takes_options (on_file t f) gs taken g i
+takes_options (on_file t f) (as_map ∷ gs) taken g i = absurd (true≢false taken)
+takes_options (compare f s) [] taken g i = absurd i
+takes_options (compare f s) (limit n ∷ gs) taken g (inl e) = subst (TakesOption (compare f s)) (sym e) tt
+takes_options (compare f s) (limit n ∷ gs) taken g (inr i) = takes_options (compare f s) gs taken g i
+takes_options (compare f s) (hash k ∷ gs) taken g i = absurd (let e = taken.0.0 in cc)
+takes_options (compare f s) (related r ∷ gs) taken g i = absurd (let e = taken.0.1 in cc)
+takes_options (compare f s) (as_map ∷ gs) taken g i = absurd (true≢false taken.1)
+takes_options (lean f) [] taken g i = absurd i
+takes_options (lean f) (limit n ∷ gs) taken g (inl e) = subst (TakesOption (lean f)) (sym e) tt
+takes_options (lean f) (limit n ∷ gs) taken g (inr i) = takes_options (lean f) gs taken g i
+takes_options (lean f) (hash k ∷ gs) taken g i = absurd (let e = taken.0 in cc)
+takes_options (lean f) (related r ∷ gs) taken g i = absurd (let e = taken.1 in cc)
+takes_options (lean f) (as_map ∷ gs) taken g (inl e) = subst (TakesOption (lean f)) (sym e) tt
+takes_options (lean f) (as_map ∷ gs) taken g (inr i) = takes_options (lean f) gs taken g i
+takes_options (load m) [] taken g i = absurd i
+takes_options (load m) (limit n ∷ gs) taken g (inl e) = subst (TakesOption (load m)) (sym e) tt
+takes_options (load m) (limit n ∷ gs) taken g (inr i) = takes_options (load m) gs taken g i
+takes_options (load m) (hash k ∷ gs) taken g (inl e) = subst (TakesOption (load m)) (sym e) tt
+takes_options (load m) (hash k ∷ gs) taken g (inr i) = takes_options (load m) gs taken g i
+takes_options (load m) (related r ∷ gs) taken g (inl e) = subst (TakesOption (load m)) (sym e) tt
+takes_options (load m) (related r ∷ gs) taken g (inr i) = takes_options (load m) gs taken g i
+takes_options (load m) (as_map ∷ gs) taken g i = absurd (true≢false taken)
+
+options_taken : (c : Command) (given : List Given) → ((g : Given) → In g given → TakesOption c g) → AreTaken c (options_in given)
+options_taken (on_file t f) [] all = refl
+options_taken (on_file t f) (limit n ∷ gs) all = options_taken (on_file t f) gs (λ g i. all g (inr i))
+options_taken (on_file t f) (hash k ∷ gs) all = options_taken (on_file t f) gs (λ g i. all g (inr i))
+options_taken (on_file t f) (related r ∷ gs) all = options_taken (on_file t f) gs (λ g i. all g (inr i))
+options_taken (on_file t f) (as_map ∷ gs) all = absurd (all as_map (inl refl))
+options_taken (compare f s) [] all = ((refl, refl), refl)
+options_taken (compare f s) (limit n ∷ gs) all = options_taken (compare f s) gs (λ g i. all g (inr i))
+options_taken (compare f s) (hash k ∷ gs) all = absurd (all (hash k) (inl refl))
+options_taken (compare f s) (related r ∷ gs) all = absurd (all (related r) (inl refl))
+options_taken (compare f s) (as_map ∷ gs) all = absurd (all as_map (inl refl))
+options_taken (lean f) [] all = (refl, refl)
+options_taken (lean f) (limit n ∷ gs) all = options_taken (lean f) gs (λ g i. all g (inr i))
+options_taken (lean f) (hash k ∷ gs) all = absurd (all (hash k) (inl refl))
+options_taken (lean f) (related r ∷ gs) all = absurd (all (related r) (inl refl))
+options_taken (lean f) (as_map ∷ gs) all = options_taken (lean f) gs (λ g i. all g (inr i))
+options_taken (load m) [] all = refl
+options_taken (load m) (limit n ∷ gs) all = options_taken (load m) gs (λ g i. all g (inr i))
+options_taken (load m) (hash k ∷ gs) all = options_taken (load m) gs (λ g i. all g (inr i))
+options_taken (load m) (related r ∷ gs) all = options_taken (load m) gs (λ g i. all g (inr i))
+options_taken (load m) (as_map ∷ gs) all = absurd (all as_map (inl refl))
 
 options_of : (word : Text) (more : List Text) (c : Command) (given : List Given) → IsCommand (word ∷ more) c given → BeginsWithOptions more given (operands c)
 options_of word more c given k = record { spelled = tail_same word (command_word c) more (flat_map spelled_option given ++ operands c) k.spelled; once = k.once; good = k.good_values }
@@ -67,14 +173,24 @@ no_command-operands word more rest options a none c given k =
     let s = same_options a.given given rest (operands c) a.no_more (operands_no_option c k.good_operands) (sym a.begins.spelled ∙ b.spelled) in
     none c (record { word_is = first_word word more c given k; operands_are = s.1; good = k.good_operands })
 
+-- the word and the operands spell the command alone, and it does not take an option that is there
+pub no_command-taken : (word : Text) (more rest : List Text) (options : Options) (c : Command) → AreOptions more options rest → IsSpelled word rest c → ¬ (AreTaken c options) → IsNoCommand (word ∷ more)
+no_command-taken word more rest options c a s none d given k =
+    let b = options_of word more d given k in
+    let same = same_options a.given given rest (operands d) a.no_more (operands_no_option d k.good_operands) (sym a.begins.spelled ∙ b.spelled) in
+    let command : d ≡ c = same_command d c (sym (first_word word more d given k) ∙ s.word_is) (sym same.1 ∙ s.operands_are) in
+    let taken : AreTaken d (options_in given) = options_taken d given k.taken in
+    let here : AreTaken c (options_in a.given) = subst (λ g. AreTaken c (options_in g)) same.0 (subst (λ e. AreTaken e (options_in given)) command taken) in
+    none (subst (AreTaken c) (sym a.options_are) here)
+
 -- ---- words that are one
 
-pub command-of_parts : (word : Text) (more rest : List Text) (options : Options) (c : Command) (a : AreOptions more options rest) → IsSpelled word rest c → IsCommand (word ∷ more) c a.given
-command-of_parts word more rest options c a s = record {
+pub command-of_parts : (word : Text) (more rest : List Text) (options : Options) (c : Command) (a : AreOptions more options rest) → IsSpelled word rest c → AreTaken c options → IsCommand (word ∷ more) c a.given
+command-of_parts word more rest options c a s t = record {
   spelled = λ i. s.word_is i ∷ (a.begins.spelled ∙ ap (λ ws. flat_map spelled_option a.given ++ ws) s.operands_are) i;
   once = a.begins.once;
   good_values = a.begins.good;
-  taken = λ g i. takes_option c g;
+  taken = takes_options c a.given (subst (AreTaken c) a.options_are t);
   good_operands = s.good;
 }
 

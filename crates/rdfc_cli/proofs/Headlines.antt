@@ -24,14 +24,14 @@ use Rattle.rdfc_cli.specs.declared.options.Settings.{Settings}
 use Rattle.rdfc_cli.specs.declared.words.Task.{Task}
 use Rattle.rdfc_cli.specs.declared.words.Task.TheVariants.{Canon}
 use Rattle.rdfc_cli.specs.declared.status.Status.{Status}
-use Rattle.rdfc_cli.specs.declared.status.Status.TheVariants.{Done, Usage, Unsettled, Refused, ReadFault, WriteFault, WorkLimit, NoMemory}
+use Rattle.rdfc_cli.specs.declared.status.Status.TheVariants.{Done, Different, Usage, Unsettled, Refused, ReadFault, WriteFault, WorkLimit, NoMemory, Undecided, SearchLimit}
 use Rattle.rdfc_cli.specs.declared.status.Cause.{Cause}
-use Rattle.rdfc_cli.specs.declared.status.Cause.TheVariants.{TooLong, NotUtf8, BadLine, RelativeIri, TooManyQuads}
+use Rattle.rdfc_cli.specs.declared.status.Cause.TheVariants.{TooLong, NotUtf8, BadLine, RelativeIri, TooManyQuads, NotOneGraph}
 
 -- ---- what a file is read as
 
 -- the quads are the same, whichever way the file is read
-same_quads : (bytes : Text) (a b : Content) → Accepts bytes a → Accepts bytes b → HaveSameQuads a.dataset b.dataset
+pub same_quads : (bytes : Text) (a b : Content) → Accepts bytes a → Accepts bytes b → HaveSameQuads a.dataset b.dataset
 same_quads bytes a b x y =
     let same = AreRead-same (lines_of bytes) a.labels b.labels x.stated y.stated x.states.reads y.states.reads in
     record {
@@ -39,17 +39,17 @@ same_quads bytes a b x y =
       statements = permutes_trans (Permutes-sym x.quads_are) (permutes_trans (Permutes-from_equal same.1) y.quads_are);
     }
 
-same_units : (ρ : Hashing) (bytes : Text) (a b : Content) → Accepts bytes a → Accepts bytes b → units_of ρ b.dataset ≡ units_of ρ a.dataset
+pub same_units : (ρ : Hashing) (bytes : Text) (a b : Content) → Accepts bytes a → Accepts bytes b → units_of ρ b.dataset ≡ units_of ρ a.dataset
 same_units ρ bytes a b x y = ap (λ run. run.trace.units) (counted_run_of_quads ρ a.dataset b.dataset (same_quads bytes a b x y))
 
 -- what is known of the file that is told
-of_told : (told : Option Text) (bytes : Text) (Fact : Text → Type 0) → told ≡ Some bytes → IfSome told Fact → Fact bytes
+pub of_told : (told : Option Text) (bytes : Text) (Fact : Text → Type 0) → told ≡ Some bytes → IfSome told Fact → Fact bytes
 of_told told bytes Fact e f = subst (λ t. IfSome t Fact) e f
 
 -- ---- causes
 
 -- each cause but that of length is that of the reader, of bytes within the limit
-not_both : (n limit : ℕ) → limit < n → ¬ (n ≤ limit)
+pub not_both : (n limit : ℕ) → limit < n → ¬ (n ≤ limit)
 not_both n limit l m = omega arith
 
 cause_of : ReaderFault → Cause
@@ -74,6 +74,7 @@ reader_cause bytes (NotUtf8 line) h = inr (record { within = h.0; fault = NotUtf
 reader_cause bytes (BadLine line) h = inr (record { within = h.0; fault = BadLineFault line; holds = h.1; wanted = λ e. cc; cause_is = refl })
 reader_cause bytes (RelativeIri line) h = inr (record { within = h.0; fault = RelativeIriFault line; holds = h.1; wanted = λ e. cc; cause_is = refl })
 reader_cause bytes TooManyQuads h = inr (record { within = h.0; fault = TooManyQuadsFault; holds = h.1; wanted = λ e. cc; cause_is = refl })
+reader_cause bytes NotOneGraph h = absurd h
 
 one_cause : (bytes : Text) (cause other : Cause) → IsCause bytes cause → IsCause bytes other → cause ≡ other
 one_cause bytes cause other h k = by (reader_cause bytes cause h) (reader_cause bytes other k)
@@ -84,7 +85,7 @@ one_cause bytes cause other h k = by (reader_cause bytes cause h) (reader_cause 
     by (inr a) (inl b) = absurd (not_both (length bytes) 268435456 b.0 a.within)
     by (inr a) (inr b) = a.cause_is ∙ ap cause_of (causes_same bytes a.fault b.fault a.holds b.holds a.wanted b.wanted) ∙ sym b.cause_is
 
-no_cause_if_accepted : (bytes : Text) (content : Content) (cause : Cause) → Accepts bytes content → ¬ (IsCause bytes cause)
+pub no_cause_if_accepted : (bytes : Text) (content : Content) (cause : Cause) → Accepts bytes content → ¬ (IsCause bytes cause)
 no_cause_if_accepted bytes content cause a h = by (reader_cause bytes cause h)
   where
     by : ((268435456 < length bytes) × (cause ≡ TooLong)) ⊎ IsReaderCause bytes cause → ⊥
@@ -159,13 +160,18 @@ module _ {K : Type 0} (taken : K → Option Text) (faults : K → ℕ) where
 
   pub is_complete : IsComplete taken faults
   is_complete file task word bytes settings old new Done p a = tt
+  is_complete file task word bytes settings old new Different p a = absurd a.1
   is_complete file task word bytes settings old new Usage p a = absurd a.1
   is_complete file task word bytes settings old new (Unsettled tie) p a = tt
-  is_complete file task word bytes settings old new (Refused refusal) p a =
-      no_cause_if_accepted bytes p.content refusal.cause p.accepts (of_told (file word).told bytes (λ bytes. IsCause bytes refusal.cause) p.told a.1.1)
+  is_complete file task word bytes settings old new (Refused refusal) p a = elim a.1 [ inl r ↦ refused_never r.1 | inr r ↦ r.2 ]
+    where
+      refused_never : IfSome (file word).told (λ bytes. IsCause bytes refusal.cause) → ⊥
+      refused_never r = no_cause_if_accepted bytes p.content refusal.cause p.accepts (of_told (file word).told bytes (λ bytes. IsCause bytes refusal.cause) p.told r)
   is_complete file task word bytes settings old new (ReadFault place) p a = p.no_read_failed a.1.1
   is_complete file task word bytes settings old new WriteFault p a = p.no_put_failed a.0
   is_complete file task word bytes settings old new (WorkLimit place limit) p a =
       let f = of_told (file word).told bytes (λ bytes. (content : Content) × Accepts bytes content × (settings.limit < units_of (hashing_of settings) content.dataset)) p.told a.1.1.1 in
       not_both (units_of (hashing_of settings) p.content.dataset) settings.limit (subst (λ n. settings.limit < n) (same_units (hashing_of settings) bytes p.content f.0 p.accepts f.1) f.2) p.within
   is_complete file task word bytes settings old new NoMemory p a = tt
+  is_complete file task word bytes settings old new (Undecided s t) p a = absurd a.1
+  is_complete file task word bytes settings old new (SearchLimit limit image) p a = absurd a.1.1

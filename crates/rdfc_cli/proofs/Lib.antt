@@ -7,4 +7,8 @@ pub mod CommandWords
 pub mod Answering
 pub mod TieNodes
 pub mod ReportTexts
+pub mod Pairing
 pub mod Headlines
+pub mod Leaning
+pub mod FineGraphs
+pub mod Alike

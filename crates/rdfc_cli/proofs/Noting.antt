@@ -3,10 +3,11 @@ use Rattle.std.proofs.Common.{◌≡◌, ℕ, Option, refl}
 use Rattle.rdf_terms.specs.Lists.{Text}
 use Rattle.rdfc_cli.specs.Notes.{note_line, PutsLine, IsNoted}
 use Rattle.rdfc_cli.specs.declared.status.Status.{Status}
-use Rattle.rdfc_cli.specs.declared.status.Status.TheVariants.{Done, Usage, Unsettled, Refused, ReadFault, WriteFault, WorkLimit, NoMemory}
+use Rattle.rdfc_cli.specs.declared.status.Status.TheVariants.{Done, Different, Usage, Unsettled, Refused, ReadFault, WriteFault, WorkLimit, NoMemory, Undecided, SearchLimit}
 
 pub noted : {N : Type 0} (taken : N → Option Text) (faults : N → ℕ) (old new : N) (word : ℕ → Text) (status : Status) → (status ≡ Done → ⊥) → PutsLine taken faults old new (note_line word status) → IsNoted taken faults old new word status
 noted taken faults old new word Done other p = absurd (other refl)
+noted taken faults old new word Different other p = p
 noted taken faults old new word Usage other p = p
 noted taken faults old new word (Unsettled t) other p = p
 noted taken faults old new word (Refused r) other p = p
@@ -14,3 +15,5 @@ noted taken faults old new word (ReadFault i) other p = p
 noted taken faults old new word WriteFault other p = p
 noted taken faults old new word (WorkLimit i n) other p = p
 noted taken faults old new word NoMemory other p = p
+noted taken faults old new word (Undecided s t) other p = p
+noted taken faults old new word (SearchLimit n image) other p = p

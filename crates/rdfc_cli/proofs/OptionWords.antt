@@ -1,19 +1,20 @@
 -- Options as words: how they are spelled tells which they are, and where they end.
-use Rattle.std.proofs.Common.{◌≡◌, ℕ, zero, suc, true, false, List, [], ◌∷◌, ◌++◌, Some, None, Option, IfNone, map, codes, inl, inr, get_or, drop, length, if◌then◌else◌, ◌==◌, refl, sym, ap, ◌∙◌, subst, append_assoc, append-nil, arith}
+use Rattle.std.proofs.Common.{◌≡◌, ℕ, zero, suc, true, false, true≢false, List, [], ◌∷◌, ◌++◌, Some, None, Option, IfNone, map, codes, inl, inr, get_or, drop, length, if◌then◌else◌, ◌==◌, refl, sym, ap, ◌∙◌, subst, append_assoc, append-nil, arith}
 use Rattle.std.specs.Prelude.{flat_map}
 use Rattle.rdf_terms.specs.Lists.{Text, In, AreDistinct}
 use Rattle.rdf_terms.proofs.Membership.{In-append}
+use Rattle.rdf_terms.specs.Numeral.{numeral}
 use Rattle.rdf_terms.proofs.Numerals.{numeral-injective}
 use Rattle.canon_model.specs.declared.profile.HashKind.{HashKind}
 use Rattle.canon_model.specs.declared.profile.HashKind.TheVariants.{Sha256, Sha384}
 use Rattle.canon_model.specs.declared.profile.Related.{Related as Reading}
 use Rattle.canon_model.specs.declared.profile.Related.TheVariants.{Each, Once}
 use Rattle.rdfc_cli.specs.Words.{Given, name_word, option_name, option_value, hash_word, related_word, spelled_option, HasGoodValue}
-use Rattle.rdfc_cli.specs.Words.Given.{limit, hash, related}
-use Rattle.rdfc_cli.specs.Options.{options_in, with_option, IsNew, MayFollow, Adds, BeginsNoOption, BeginsWithName, HasValue, BeginsWithOptions, AreOptions, AreNoOptions}
+use Rattle.rdfc_cli.specs.Words.Given.{limit, hash, related, as_map}
+use Rattle.rdfc_cli.specs.Options.{options_in, with_option, IsNew, MayFollow, MayRead, Adds, Reads, BeginsNoOption, BeginsWithName, BeginsWithOptions, AreOptions, AreNoOptions}
 use Rattle.rdfc_cli.specs.declared.options.Options.{Options}
 use Rattle.rdfc_cli.specs.declared.options.OptionName.{OptionName}
-use Rattle.rdfc_cli.specs.declared.options.OptionName.TheVariants.{Limit, Hash, Related}
+use Rattle.rdfc_cli.specs.declared.options.OptionName.TheVariants.{Limit, Hash, Related, Map}
 
 -- what holds at any rate
 pub if_none : {A P : Type 0} (o : Option A) → P → IfNone o P
@@ -37,13 +38,14 @@ at_place i s t e = ap (λ l. get_or l i 0) e
 
 -- the byte behind the two dashes tells an option's name
 name_at : ℕ → OptionName
-name_at byte = if byte == 108 then Limit else if byte == 104 then Hash else Related
+name_at byte = if byte == 108 then Limit else if byte == 104 then Hash else if byte == 109 then Map else Related
 
 name_of_word : (m : OptionName) → name_at (get_or (name_word m) 2 0) ≡ m
 unfolding name_at
 name_of_word Limit = refl
 name_of_word Hash = refl
 name_of_word Related = refl
+name_of_word Map = refl
 
 pub name_word-injective : (m n : OptionName) → name_word m ≡ name_word n → m ≡ n
 name_word-injective m n e = sym (name_of_word m) ∙ ap name_at (at_place 2 (name_word m) (name_word n) e) ∙ name_of_word n
@@ -70,29 +72,40 @@ reading_of_word Once = refl
 related_word-injective : (m n : Reading) → related_word m ≡ related_word n → m ≡ n
 related_word-injective m n e = sym (reading_of_word m) ∙ ap reading_at (at_place 0 (related_word m) (related_word n) e) ∙ reading_of_word n
 
--- options of one name and one value are one
-same_option : (g h : Given) → option_name g ≡ option_name h → option_value g ≡ option_value h → g ≡ h
-same_option (limit m) (limit n) e v = ap limit (numeral-injective m n v)
-same_option (limit m) (hash k) e v = cc
-same_option (limit m) (related r) e v = cc
-same_option (hash k) (limit n) e v = cc
-same_option (hash k) (hash l) e v = ap hash (hash_word-injective k l v)
-same_option (hash k) (related r) e v = cc
-same_option (related r) (limit n) e v = cc
-same_option (related r) (hash k) e v = cc
-same_option (related r) (related s) e v = ap related (related_word-injective r s v)
-
 -- ---- lists of options that are spelled alike
+
+-- options of one name, with the words behind the name
+same_behind : (g h : Given) (words more : List Text) → option_name g ≡ option_name h → option_value g ++ words ≡ option_value h ++ more → (g ≡ h) × (words ≡ more)
+same_behind (limit m) (limit n) words more e b = (ap limit (numeral-injective m n (head_same (numeral m) (numeral n) words more b)), tail_same (numeral m) (numeral n) words more b)
+same_behind (limit m) (hash l) words more e b = absurd (let c : option_name (limit m) ≡ option_name (hash l) = e in cc)
+same_behind (limit m) (related s) words more e b = absurd (let c : option_name (limit m) ≡ option_name (related s) = e in cc)
+same_behind (limit m) as_map words more e b = absurd (let c : option_name (limit m) ≡ option_name as_map = e in cc)
+same_behind (hash k) (limit n) words more e b = absurd (let c : option_name (hash k) ≡ option_name (limit n) = e in cc)
+same_behind (hash k) (hash l) words more e b = (ap hash (hash_word-injective k l (head_same (hash_word k) (hash_word l) words more b)), tail_same (hash_word k) (hash_word l) words more b)
+same_behind (hash k) (related s) words more e b = absurd (let c : option_name (hash k) ≡ option_name (related s) = e in cc)
+same_behind (hash k) as_map words more e b = absurd (let c : option_name (hash k) ≡ option_name as_map = e in cc)
+same_behind (related r) (limit n) words more e b = absurd (let c : option_name (related r) ≡ option_name (limit n) = e in cc)
+same_behind (related r) (hash l) words more e b = absurd (let c : option_name (related r) ≡ option_name (hash l) = e in cc)
+same_behind (related r) (related s) words more e b = (ap related (related_word-injective r s (head_same (related_word r) (related_word s) words more b)), tail_same (related_word r) (related_word s) words more b)
+same_behind (related r) as_map words more e b = absurd (let c : option_name (related r) ≡ option_name as_map = e in cc)
+same_behind as_map (limit n) words more e b = absurd (let c : option_name as_map ≡ option_name (limit n) = e in cc)
+same_behind as_map (hash l) words more e b = absurd (let c : option_name as_map ≡ option_name (hash l) = e in cc)
+same_behind as_map (related s) words more e b = absurd (let c : option_name as_map ≡ option_name (related s) = e in cc)
+same_behind as_map as_map words more e b = (refl, b)
 
 same_spelled : (g h : Given) (words more : List Text) → spelled_option g ++ words ≡ spelled_option h ++ more → (g ≡ h) × (words ≡ more)
 same_spelled g h words more e =
-    let name = head_same (name_word (option_name g)) (name_word (option_name h)) (option_value g ∷ words) (option_value h ∷ more) e in
-    let behind = tail_same (name_word (option_name g)) (name_word (option_name h)) (option_value g ∷ words) (option_value h ∷ more) e in
-    (same_option g h (name_word-injective (option_name g) (option_name h) name) (head_same (option_value g) (option_value h) words more behind), tail_same (option_value g) (option_value h) words more behind)
+    let name = head_same (name_word (option_name g)) (name_word (option_name h)) (option_value g ++ words) (option_value h ++ more) e in
+    let behind = tail_same (name_word (option_name g)) (name_word (option_name h)) (option_value g ++ words) (option_value h ++ more) e in
+    same_behind g h words more (name_word-injective (option_name g) (option_name h) name) behind
 
 pub begins_option : (g : Given) (words more : List Text) → BeginsNoOption more → ¬ (spelled_option g ++ words ≡ more)
-begins_option g words [] none e = not_empty (name_word (option_name g)) (option_value g ∷ words) (sym e)
-begins_option g words (w ∷ ws) none e = none (option_name g) (head_same w (name_word (option_name g)) ws (option_value g ∷ words) (sym e))
+begins_option g words [] none e = not_empty (name_word (option_name g)) (option_value g ++ words) (sym e)
+begins_option g words (w ∷ ws) none e = none (option_name g) (head_same w (name_word (option_name g)) ws (option_value g ++ words) (sym e))
+
+-- the first option, and the words behind it
+pub spelled_first : (g : Given) (gs : List Given) (rest : List Text) → flat_map spelled_option (g ∷ gs) ++ rest ≡ spelled_option g ++ (flat_map spelled_option gs ++ rest)
+spelled_first g gs rest = append_assoc (spelled_option g) (flat_map spelled_option gs) rest
 
 -- the one list goes on where the other ends
 pub record GoesOn (given other : List Given) (rest more : List Text) : Type 0 where
@@ -102,15 +115,15 @@ pub record GoesOn (given other : List Given) (rest more : List Text) : Type 0 wh
 
 pub goes_on : (given other : List Given) (rest more : List Text) → BeginsNoOption more → flat_map spelled_option given ++ rest ≡ flat_map spelled_option other ++ more → GoesOn given other rest more
 goes_on [] other rest more none e = record { behind = other; other_is = refl; rest_is = e }
-goes_on (g ∷ gs) [] rest more none e = absurd (begins_option g (flat_map spelled_option gs ++ rest) more none e)
+goes_on (g ∷ gs) [] rest more none e = absurd (begins_option g (flat_map spelled_option gs ++ rest) more none (sym (spelled_first g gs rest) ∙ e))
 goes_on (g ∷ gs) (h ∷ hs) rest more none e =
-    let s = same_spelled g h (flat_map spelled_option gs ++ rest) (flat_map spelled_option hs ++ more) e in
+    let s = same_spelled g h (flat_map spelled_option gs ++ rest) (flat_map spelled_option hs ++ more) (sym (spelled_first g gs rest) ∙ (e ∙ spelled_first h hs more)) in
     let r = goes_on gs hs rest more none s.1 in
     record { behind = r.behind; other_is = (λ i. sym s.0 i ∷ r.other_is i); rest_is = r.rest_is }
 
 no_more_behind : (behind : List Given) (rest more : List Text) → BeginsNoOption rest → rest ≡ flat_map spelled_option behind ++ more → (behind ≡ []) × (rest ≡ more)
 no_more_behind [] rest more none e = (refl, e)
-no_more_behind (g ∷ gs) rest more none e = absurd (begins_option g (flat_map spelled_option gs ++ more) rest none (sym e))
+no_more_behind (g ∷ gs) rest more none e = absurd (begins_option g (flat_map spelled_option gs ++ more) rest none (sym (e ∙ spelled_first g gs more)))
 
 -- both lists end before a word that is no option's name, so they are one
 pub same_options : (given other : List Given) (rest more : List Text) → BeginsNoOption rest → BeginsNoOption more → flat_map spelled_option given ++ rest ≡ flat_map spelled_option other ++ more
@@ -139,11 +152,25 @@ name_there (related s ∷ gs) (limit n) new (inr i) = name_there gs (limit n) ne
 name_there (related s ∷ gs) (hash k) new (inl e) = cc
 name_there (related s ∷ gs) (hash k) new (inr i) = name_there gs (hash k) new i
 name_there (related s ∷ gs) (related r) new i = cc
+name_there (limit m ∷ gs) as_map new (inl e) = cc
+name_there (limit m ∷ gs) as_map new (inr i) = name_there gs as_map new i
+name_there (hash l ∷ gs) as_map new (inl e) = cc
+name_there (hash l ∷ gs) as_map new (inr i) = name_there gs as_map new i
+name_there (related s ∷ gs) as_map new (inl e) = cc
+name_there (related s ∷ gs) as_map new (inr i) = name_there gs as_map new i
+name_there (as_map ∷ gs) (limit n) new (inl e) = cc
+name_there (as_map ∷ gs) (limit n) new (inr i) = name_there gs (limit n) new i
+name_there (as_map ∷ gs) (hash k) new (inl e) = cc
+name_there (as_map ∷ gs) (hash k) new (inr i) = name_there gs (hash k) new i
+name_there (as_map ∷ gs) (related r) new (inl e) = cc
+name_there (as_map ∷ gs) (related r) new (inr i) = name_there gs (related r) new i
+name_there (as_map ∷ gs) as_map new i = true≢false new
 
 new_name : (given : List Given) (g : Given) → ¬ (In (option_name g) (map option_name given)) → IsNew (options_in given) g
 new_name [] (limit n) none = refl
 new_name [] (hash k) none = refl
 new_name [] (related r) none = refl
+new_name [] as_map none = refl
 new_name (limit m ∷ gs) (limit n) none = absurd (none (inl refl))
 new_name (limit m ∷ gs) (hash k) none = new_name gs (hash k) (λ i. none (inr i))
 new_name (limit m ∷ gs) (related r) none = new_name gs (related r) (λ i. none (inr i))
@@ -153,12 +180,20 @@ new_name (hash l ∷ gs) (related r) none = new_name gs (related r) (λ i. none 
 new_name (related s ∷ gs) (limit n) none = new_name gs (limit n) (λ i. none (inr i))
 new_name (related s ∷ gs) (hash k) none = new_name gs (hash k) (λ i. none (inr i))
 new_name (related s ∷ gs) (related r) none = absurd (none (inl refl))
+new_name (limit m ∷ gs) as_map none = new_name gs as_map (λ i. none (inr i))
+new_name (hash l ∷ gs) as_map none = new_name gs as_map (λ i. none (inr i))
+new_name (related s ∷ gs) as_map none = new_name gs as_map (λ i. none (inr i))
+new_name (as_map ∷ gs) (limit n) none = new_name gs (limit n) (λ i. none (inr i))
+new_name (as_map ∷ gs) (hash k) none = new_name gs (hash k) (λ i. none (inr i))
+new_name (as_map ∷ gs) (related r) none = new_name gs (related r) (λ i. none (inr i))
+new_name (as_map ∷ gs) as_map none = absurd (none (inl refl))
 
 -- what a new option adds to those before it
 options_in-push : (given : List Given) (g : Given) → IsNew (options_in given) g → options_in (given ++ g ∷ []) ≡ with_option (options_in given) g
 options_in-push [] (limit n) new = refl
 options_in-push [] (hash k) new = refl
 options_in-push [] (related r) new = refl
+options_in-push [] as_map new = refl
 options_in-push (limit m ∷ gs) (limit n) new = cc
 options_in-push (limit m ∷ gs) (hash k) new = ap (λ o. with_option o (limit m)) (options_in-push gs (hash k) new)
 options_in-push (limit m ∷ gs) (related r) new = ap (λ o. with_option o (limit m)) (options_in-push gs (related r) new)
@@ -168,6 +203,13 @@ options_in-push (hash l ∷ gs) (related r) new = ap (λ o. with_option o (hash 
 options_in-push (related s ∷ gs) (limit n) new = ap (λ o. with_option o (related s)) (options_in-push gs (limit n) new)
 options_in-push (related s ∷ gs) (hash k) new = ap (λ o. with_option o (related s)) (options_in-push gs (hash k) new)
 options_in-push (related s ∷ gs) (related r) new = cc
+options_in-push (limit m ∷ gs) as_map new = ap (λ o. with_option o (limit m)) (options_in-push gs as_map new)
+options_in-push (hash l ∷ gs) as_map new = ap (λ o. with_option o (hash l)) (options_in-push gs as_map new)
+options_in-push (related s ∷ gs) as_map new = ap (λ o. with_option o (related s)) (options_in-push gs as_map new)
+options_in-push (as_map ∷ gs) (limit n) new = ap (λ o. with_option o as_map) (options_in-push gs (limit n) new)
+options_in-push (as_map ∷ gs) (hash k) new = ap (λ o. with_option o as_map) (options_in-push gs (hash k) new)
+options_in-push (as_map ∷ gs) (related r) new = ap (λ o. with_option o as_map) (options_in-push gs (related r) new)
+options_in-push (as_map ∷ gs) as_map new = absurd (true≢false new)
 
 distinct_before : (given more : List Given) (g : Given) → AreDistinct (map option_name (given ++ g ∷ more)) → ¬ (In (option_name g) (map option_name given))
 distinct_before [] more g d i = i
@@ -191,8 +233,8 @@ distinct_push (h ∷ hs) g d none = (λ i. first hs d.0 (λ j. none (inr j)) i, 
 -- ---- one option after the other
 
 flat_map-push : (given : List Given) (g : Given) (rest : List Text) → flat_map spelled_option (given ++ g ∷ []) ++ rest ≡ flat_map spelled_option given ++ (spelled_option g ++ rest)
-flat_map-push [] g rest = refl
-flat_map-push (h ∷ hs) g rest = ap (λ ws. spelled_option h ++ ws) (flat_map-push hs g rest)
+flat_map-push [] g rest = ap (λ ws. ws ++ rest) (append-nil (spelled_option g))
+flat_map-push (h ∷ hs) g rest = spelled_first h (hs ++ g ∷ []) rest ∙ (ap (λ ws. spelled_option h ++ ws) (flat_map-push hs g rest) ∙ sym (spelled_first h hs (spelled_option g ++ rest)))
 
 good_push : (given : List Given) (g : Given) → ((h : Given) → In h given → HasGoodValue h) → HasGoodValue g → (h : Given) → In h (given ++ g ∷ []) → HasGoodValue h
 good_push given g all one h i = elim (In-append given (g ∷ []) h i) [ inl j ↦ all h j | inr j ↦ last j ]
@@ -210,31 +252,23 @@ pub record HasRead (words : List Text) (options : Options) (rest : List Text) : 
 pub has_read-none : (words : List Text) → HasRead words (options_in []) words
 has_read-none words = record { given = []; begins = record { spelled = refl; once = tt; good = λ g i. absurd i }; options_are = refl }
 
-pub has_read-more : (words : List Text) (options new : Options) (name value : Text) (rest : List Text) → HasRead words options (name ∷ value ∷ rest) → Adds options new name value → HasRead words new rest
-has_read-more words options new name value rest r a =
+pub has_read-more : (words : List Text) (options new : Options) (rest behind : List Text) → HasRead words options rest → Reads options rest new behind → HasRead words new behind
+has_read-more words options new rest behind r a =
     let g = a.given in
-    let fresh : IsNew (options_in r.given) g = subst (λ o. IsNew o g) r.options_are a.follows.new in
+    let fresh : IsNew (options_in r.given) g = subst (λ o. IsNew o g) r.options_are a.may.new in
     record {
       given = r.given ++ g ∷ [];
       begins = record {
-        spelled = r.begins.spelled ∙ ap (λ ws. flat_map spelled_option r.given ++ ws) (sym (ap (λ ws. ws ++ rest) a.follows.spelled)) ∙ sym (flat_map-push r.given g rest);
+        spelled = r.begins.spelled ∙ (ap (λ ws. flat_map spelled_option r.given ++ ws) a.may.spelled ∙ sym (flat_map-push r.given g behind));
         once = distinct_push r.given g r.begins.once (name_there r.given g fresh);
-        good = good_push r.given g r.begins.good a.follows.good;
+        good = good_push r.given g r.begins.good a.may.good;
       };
       options_are = a.new_is ∙ ap (λ o. with_option o g) r.options_are ∙ sym (options_in-push r.given g fresh);
     }
 
--- the option's name is next, and its value behind it
-pub has_read-next : (words : List Text) (options new : Options) (name : OptionName) (rest : List Text) (value : Text) (behind : List Text) → HasRead words options rest → BeginsWithName rest name → HasValue rest value behind
-    → Adds options new (name_word name) value → HasRead words new behind
-has_read-next words options new name rest value behind r b v a =
-    let at_name : BeginsWithName (v.first ∷ value ∷ behind) name = subst (λ ws. BeginsWithName ws name) v.words_are b in
-    let spelled : rest ≡ name_word name ∷ value ∷ behind = v.words_are ∙ ap (λ w. w ∷ value ∷ behind) at_name in
-    has_read-more words options new (name_word name) value behind (subst (HasRead words options) spelled r) a
-
--- an option's name is next, and no option with that name and the next word as its value may follow
+-- an option's name is next, and the words begin with no option that may come next
 pub no_options : (words : List Text) (options : Options) (rest : List Text) (name : OptionName) → HasRead words options rest → BeginsWithName rest name
-    → ((g : Given) (value : Text) (more : List Text) → HasValue rest value more → ¬ (MayFollow options g (name_word name) value)) → AreNoOptions words
+    → ((g : Given) (more : List Text) → ¬ (MayRead options g rest more)) → AreNoOptions words
 no_options words options [] name r b none other more not c = absurd b
 no_options words options (w ∷ ws) name r b none other more not c =
     let g = goes_on r.given other (w ∷ ws) more not (sym r.begins.spelled ∙ c.spelled) in
@@ -242,20 +276,70 @@ no_options words options (w ∷ ws) name r b none other more not c =
   where
     next : (behind : List Given) → other ≡ r.given ++ behind → w ∷ ws ≡ flat_map spelled_option behind ++ more → ⊥
     next [] o e = subst BeginsNoOption (sym e) not name b
-    next (g ∷ gs) o e = none g (option_value g) (flat_map spelled_option gs ++ more) (record { first = name_word (option_name g); words_are = e }) (record {
-      spelled = ap (λ n. n ∷ option_value g ∷ []) name_is;
+    next (g ∷ gs) o e = none g (flat_map spelled_option gs ++ more) (record {
+      spelled = e ∙ spelled_first g gs more;
       good = c.good g (subst (λ l. In g l) (sym o) (there r.given));
       new = subst (λ p. IsNew p g) (sym r.options_are) (new_name r.given g (distinct_before r.given gs g (subst (λ l. AreDistinct (map option_name l)) o c.once)));
     })
       where
-        name_is : name_word (option_name g) ≡ name_word name
-        name_is = sym (head_same w (name_word (option_name g)) ws (option_value g ∷ (flat_map spelled_option gs ++ more)) e) ∙ b
-
         there : (xs : List Given) → In g (xs ++ g ∷ gs)
         there [] = inl refl
         there (x ∷ xs) = inr (there xs)
 
--- two words behind the options are one value
-pub one_value : (rest : List Text) (value other : Text) (behind more : List Text) → HasValue rest value behind → HasValue rest other more → value ≡ other
-one_value rest value other behind more v w =
-    head_same value other behind more (tail_same v.first w.first (value ∷ behind) (other ∷ more) (sym v.words_are ∙ w.words_are))
+-- ---- the words of one option
+
+-- the option's words are in front of the rest
+pub reads-front : (old new : Options) (words front rest : List Text) → Adds old new front → words ≡ front ++ rest → Reads old words new rest
+reads-front old new words front rest a e =
+    record { given = a.given; may = record { spelled = e ∙ ap (λ ws. ws ++ rest) (sym a.follows.spelled); good = a.follows.good; new = a.follows.new }; new_is = a.new_is }
+
+-- an option that the words begin with has the name that they begin with
+read_name : (options : Options) (name : OptionName) (g : Given) (words more : List Text) → BeginsWithName words name → MayRead options g words more → option_name g ≡ name
+read_name options name g [] more b m = absurd b
+read_name options name g (w ∷ ws) more b m =
+    name_word-injective (option_name g) name (sym (head_same w (name_word (option_name g)) ws (option_value g ++ more) m.spelled) ∙ b)
+
+-- the words behind the name are its value and the rest
+read_value : (options : Options) (g : Given) (w : Text) (ws more : List Text) → MayRead options g (w ∷ ws) more → ws ≡ option_value g ++ more
+read_value options g w ws more m = tail_same w (name_word (option_name g)) ws (option_value g ++ more) m.spelled
+
+is_map : (g : Given) → option_name g ≡ Map → g ≡ as_map
+is_map (limit n) e = cc
+is_map (hash k) e = cc
+is_map (related r) e = cc
+is_map as_map e = refl
+
+value_of : (g : Given) → ¬ (option_name g ≡ Map) → (v : Text) × (option_value g ≡ v ∷ [])
+value_of (limit n) other = (numeral n, refl)
+value_of (hash k) other = (hash_word k, refl)
+value_of (related r) other = (related_word r, refl)
+value_of as_map other = absurd (other refl)
+
+-- no map may follow
+pub no_map : (options : Options) (words : List Text) (g : Given) (more : List Text) → BeginsWithName words Map → ¬ (MayFollow options as_map (name_word Map ∷ [])) → ¬ (MayRead options g words more)
+no_map options words g more b none m =
+    let e = is_map g (read_name options Map g words more b m) in
+    none (record { spelled = refl; good = tt; new = subst (IsNew options) e m.new })
+
+-- an option with a value has a word behind its name
+pub no_value : (options : Options) (name : OptionName) (w : Text) (g : Given) (more : List Text) → BeginsWithName (w ∷ []) name → ¬ (name ≡ Map) → ¬ (MayRead options g (w ∷ []) more)
+no_value options name w g more b other m =
+    let n = read_name options name g (w ∷ []) more b m in
+    let v = value_of g (λ e. other (sym n ∙ e)) in
+    not_empty v.0 more (read_value options g w [] more m ∙ ap (λ ws. ws ++ more) v.1)
+
+-- and that word is its value
+pub not_with : (options : Options) (name : OptionName) (w value : Text) (rest : List Text) (g : Given) (more : List Text) → BeginsWithName (w ∷ value ∷ rest) name → ¬ (name ≡ Map)
+    → ¬ (MayFollow options g (name_word name ∷ value ∷ [])) → ¬ (MayRead options g (w ∷ value ∷ rest) more)
+not_with options name w value rest g more b other none m =
+    let n = read_name options name g (w ∷ value ∷ rest) more b m in
+    let v = value_of g (λ e. other (sym n ∙ e)) in
+    let same : value ≡ v.0 = head_same value v.0 rest more (read_value options g w (value ∷ rest) more m ∙ ap (λ ws. ws ++ more) v.1) in
+    none (record { spelled = (λ i. name_word (n i) ∷ v.1 i) ∙ ap (λ x. name_word name ∷ x ∷ []) (sym same); good = m.good; new = m.new })
+
+-- no option is the word of the map and a value
+pub no_map_with : (options : Options) (g : Given) (value : Text) → ¬ (MayFollow options g (name_word Map ∷ value ∷ []))
+no_map_with options g value m =
+    let n = name_word-injective (option_name g) Map (head_same (name_word (option_name g)) (name_word Map) (option_value g) (value ∷ []) m.spelled) in
+    let behind : option_value g ≡ value ∷ [] = tail_same (name_word (option_name g)) (name_word Map) (option_value g) (value ∷ []) m.spelled in
+    not_empty value [] (subst (λ h. option_value h ≡ value ∷ []) (is_map g n) behind)

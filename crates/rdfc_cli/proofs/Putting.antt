@@ -7,10 +7,6 @@ use Rattle.rdf_terms.specs.Lists.{joined}
 use Rattle.outside.specs.Faults.{Rose, HasCause}
 use Rattle.rdfc_cli.specs.Puts.{IsCutShort, Puts}
 
--- what a range to the end of a slice gives
-pub rest_all : (m : ℕ) (bs : List ℕ) → take (length bs - m) (drop m bs) ≡ drop m bs
-rest_all m bs = take_all (length bs - m) (drop m bs) (omega (arith, length-drop m bs))
-
 pub cut : (front rest bytes : List ℕ) (n : ℕ) → bytes ≡ front ++ rest → bytes ≡ (front ++ take n rest) ++ drop n rest
 cut front rest bytes n e = e ∙ ap (λ l. front ++ l) (sym (take-append-drop n rest)) ∙ sym (append_assoc front (take n rest) (drop n rest))
 

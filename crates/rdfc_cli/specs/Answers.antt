@@ -1,10 +1,11 @@
 -- What a run answers, what it writes and why: a relation between the files, the sink and the status.
-use Rattle.std.specs.Prelude.{◌≡◌, ℕ, ◌<◌, ◌≤◌, List, length, Option, Some, None, IfSome}
+use Rattle.std.specs.Prelude.{◌≡◌, ℕ, ◌<◌, ◌≤◌, ◌⊎◌, List, length, Option, Some, None, IfSome}
 use Rattle.std.specs.Io.KnownBytes.{Appends}
 use Rattle.rdf_terms.specs.Lists.{Text, Permutes}
 use Rattle.rdf_terms.specs.Terms.{Statement}
 use Rattle.rdf_terms.specs.Dataset.{Dataset, IsValid}
 use Rattle.rdf_terms.specs.declared.term.Label.{Label}
+use Rattle.rdf_terms.specs.declared.term.Quad.{Quad}
 use Rattle.outside.specs.Faults.{Rose}
 use Rattle.nquads_reader.specs.Document.{IsNQuads, IsCauseOf}
 use Rattle.nquads_reader.specs.declared.TheConstants.{MAX_QUADS}
@@ -15,16 +16,19 @@ use Rattle.canon_model.specs.JoinedTies.{IsSettled}
 use Rattle.canon_model.specs.Output.{IsOnlyOutput, PassesLimit, IsWithinLimit, chosen_form}
 use Rattle.canon_core.specs.Canonical.{IsUnsettledBy}
 use Rattle.ndegree_hash.specs.declared.tie.Tie.{Tie}
+use Rattle.iso_compare.specs.Comparison.{AreDifferent, AreUndecided}
+use Rattle.load_document.specs.LoadDocument.{load_document}
 use Rattle.rdfc_cli.specs.Puts.{IsCutShort}
-use Rattle.rdfc_cli.specs.Reports.{IsTextOf}
+use Rattle.rdfc_cli.specs.Leaning.{IsLeaning, HasGraphName, IsPastMaps}
+use Rattle.rdfc_cli.specs.Reports.{IsTextOf, ArePartnerLines, IsSummary}
 use Rattle.rdfc_cli.specs.Words.{Command}
-use Rattle.rdfc_cli.specs.Words.Command.{on_file}
+use Rattle.rdfc_cli.specs.Words.Command.{on_file, compare, lean, load}
 use Rattle.rdfc_cli.specs.declared.files.TheConstants.{FILE_LIMIT}
 use Rattle.rdfc_cli.specs.declared.options.Settings.{Settings}
 use Rattle.rdfc_cli.specs.declared.status.Status.{Status}
-use Rattle.rdfc_cli.specs.declared.status.Status.TheVariants.{Done, Unsettled, Refused, ReadFault, WriteFault, WorkLimit, NoMemory}
+use Rattle.rdfc_cli.specs.declared.status.Status.TheVariants.{Done, Different, Unsettled, Refused, ReadFault, WriteFault, WorkLimit, NoMemory, Undecided, SearchLimit}
 use Rattle.rdfc_cli.specs.declared.status.Cause.{Cause}
-use Rattle.rdfc_cli.specs.declared.status.Cause.TheVariants.{TooLong, NotUtf8, BadLine, RelativeIri, TooManyQuads}
+use Rattle.rdfc_cli.specs.declared.status.Cause.TheVariants.{TooLong, NotUtf8, BadLine, RelativeIri, TooManyQuads, NotOneGraph}
 
 -- ---- files
 
@@ -47,13 +51,14 @@ pub record Accepts (bytes : Text) (content : Content) : Type 0 where
   pub quads_are : Permutes stated content.dataset.statements
   pub valid : IsValid content.dataset
 
--- why the bytes of a file are not accepted
+-- why the bytes of a file are not accepted; that a dataset is no graph is no matter of its bytes
 abbrev pub IsCause : Text → Cause → Type 0
 IsCause bytes TooLong = FILE_LIMIT < length bytes
 IsCause bytes (NotUtf8 line) = (length bytes ≤ FILE_LIMIT) × IsCauseOf bytes (NotUtf8Fault line)
 IsCause bytes (BadLine line) = (length bytes ≤ FILE_LIMIT) × IsCauseOf bytes (BadLineFault line)
 IsCause bytes (RelativeIri line) = (length bytes ≤ FILE_LIMIT) × IsCauseOf bytes (RelativeIriFault line)
 IsCause bytes TooManyQuads = (length bytes ≤ FILE_LIMIT) × IsCauseOf bytes TooManyQuadsFault
+IsCause bytes NotOneGraph = ⊥
 
 -- the file as it is told, and the count of failed calls with its word, before and after the run
 pub record FileSeen : Type 0 where
@@ -69,11 +74,30 @@ seen told faults old new name = record { told = told old name; faults = faults o
 abbrev pub IfAccepted : FileSeen → (Content → Type 0) → Type 0
 IfAccepted file Fact = IfSome file.told (λ bytes. (content : Content) × Accepts bytes content × Fact content)
 
+-- the document of the number is accepted as the bytes of a file are, and this holds of what it says
+abbrev pub IfLoaded : ℕ → (Content → Type 0) → Type 0
+IfLoaded n Fact = (content : Content) × Accepts (load_document n) content × Fact content
+
+-- each of two files is accepted with this content, as far as it is told, and this holds of both
+pub record AreBothAccepted (first second : FileSeen) (Fact : Content → Content → Type 0) : Type 0 where
+  pub content : Content
+  pub other : Content
+  pub accepts : IfSome first.told (λ bytes. Accepts bytes content)
+  pub accepts_other : IfSome second.told (λ bytes. Accepts bytes other)
+  pub fact : Fact content other
+
 -- ---- the canonical run of a dataset
 
 -- the hashing that the settings choose
 abbrev pub hashing_of : Settings → Hashing
 hashing_of settings = meaning settings.profile
+
+-- the counted run is within the limit that the settings choose
+abbrev pub IsWithin : Settings → Dataset → Type 0
+IsWithin settings D = IsWithinLimit (hashing_of settings) D settings.limit
+
+abbrev pub IsPast : Settings → Dataset → Type 0
+IsPast settings D = PassesLimit (hashing_of settings) D settings.limit
 
 -- each tie of the counted run is joined, and whatever the standard allows for an isomorphic dataset is the chosen form
 pub record IsDone (ρ : Hashing) (D : Dataset) : Type 0 where
@@ -87,32 +111,78 @@ Finds (Some tie) ρ D = IsUnsettledBy ρ D tie
 
 -- the counted run of the dataset is within the limit and finds this, and the text is made from it
 pub record IsRunText (settings : Settings) (found : Option Tie) (IsText : Hashing → Text → Type 0) (D : Dataset) (text : Text) : Type 0 where
-  pub within : IsWithinLimit (hashing_of settings) D settings.limit
+  pub within : IsWithin settings D
   pub finds : Finds found (hashing_of settings) D
   pub is_text : IsText (hashing_of settings) text
 
+-- the counted runs of both datasets are within the limit, and the text is that of a map that carries the one dataset to the other
+pub record IsPairing (settings : Settings) (content other : Content) (text : Text) : Type 0 where
+  pub within : IsWithin settings content.dataset
+  pub other_within : IsWithin settings other.dataset
+  pub same_form : chosen_form (hashing_of settings) content.dataset ≡ chosen_form (hashing_of settings) other.dataset
+  pub lines : ArePartnerLines content.dataset other.dataset content.labels other.labels text
+
 -- ---- the whole text of a command
 
--- the text that the command writes, where its run finds this
+-- the text that the command writes, where its run finds this; a comparison has no tie to tell of where it writes, and `lean` has no run
 abbrev pub IsWritten : (Text → FileSeen) → Command → Settings → Option Tie → Text → Type 0
 IsWritten file (on_file task word) settings found text =
     IfAccepted (file word) (λ content. IsRunText settings found (λ ρ. IsTextOf task ρ content.dataset content.labels) content.dataset text)
+IsWritten file (compare first second) settings found text = (found ≡ None) × AreBothAccepted (file first) (file second) (λ content other. IsPairing settings content other text)
+IsWritten file (lean word) settings found text = (found ≡ None) × IfAccepted (file word) (λ content. IsLeaning settings.map content.dataset text)
+IsWritten file (load n) settings found text = IfLoaded n (λ content. IsRunText settings found (λ ρ. IsSummary ρ content.dataset) content.dataset text)
 
 -- ---- why nothing is written
 
--- the file at this place of the command has this
+-- the file at this place of the command has this; the second is read only where the first is accepted, and a document that is made is no file
 abbrev pub IsOfFile : (Text → FileSeen) → Command → ℕ → (FileSeen → Type 0) → Type 0
 IsOfFile file (on_file task word) place Fact = (place ≡ 0) × Fact (file word)
+IsOfFile file (compare first second) place Fact = ((place ≡ 0) × Fact (file first)) ⊎ ((place ≡ 1) × IfAccepted (file first) (λ content. Unit {0}) × Fact (file second))
+IsOfFile file (lean word) place Fact = (place ≡ 0) × Fact (file word)
+IsOfFile file (load n) place Fact = ⊥
+
+-- the file of the command is accepted, and a quad of it has a graph name where the command wants none
+abbrev pub IsNoGraph : (Text → FileSeen) → Command → Type 0
+IsNoGraph file (on_file task word) = ⊥
+IsNoGraph file (compare first second) = ⊥
+IsNoGraph file (lean word) = IfAccepted (file word) (λ content. HasGraphName content.dataset.statements)
+IsNoGraph file (load n) = ⊥
+
+-- the file at this place is refused for what its bytes are, or for what the command wants of its dataset
+abbrev pub IsRefused : (Text → FileSeen) → Command → ℕ → Cause → Type 0
+IsRefused file command place cause =
+    IsOfFile file command place (λ seen. IfSome seen.told (λ bytes. IsCause bytes cause)) ⊎ ((cause ≡ NotOneGraph) × (place ≡ 0) × IsNoGraph file command)
 
 -- the first dataset of the command whose counted run passes the limit has this place
 abbrev pub IsPastLimit : (Text → FileSeen) → Command → Settings → ℕ → Type 0
-IsPastLimit file (on_file task word) settings place = (place ≡ 0) × IfAccepted (file word) (λ content. PassesLimit (hashing_of settings) content.dataset settings.limit)
+IsPastLimit file (on_file task word) settings place = (place ≡ 0) × IfAccepted (file word) (λ content. IsPast settings content.dataset)
+IsPastLimit file (compare first second) settings place = AreBothAccepted (file first) (file second) (λ content other. ((place ≡ 0) × IsPast settings content.dataset) ⊎ ((place ≡ 1) × IsWithin settings content.dataset × IsPast settings other.dataset))
+IsPastLimit file (lean word) settings place = ⊥
+IsPastLimit file (load n) settings place = (place ≡ 0) × IfLoaded n (λ content. IsPast settings content.dataset)
+
+-- the command compares two datasets whose counted runs are within the limit, and this holds of them
+abbrev pub AreCompared : (Text → FileSeen) → Command → Settings → (Hashing → Dataset → Dataset → Type 0) → Type 0
+AreCompared file (on_file task word) settings Fact = ⊥
+AreCompared file (lean word) settings Fact = ⊥
+AreCompared file (load n) settings Fact = ⊥
+AreCompared file (compare first second) settings Fact =
+    AreBothAccepted (file first) (file second) (λ content other. IsWithin settings content.dataset × IsWithin settings other.dataset × Fact (hashing_of settings) content.dataset other.dataset)
+
+-- the command leans a graph that this is an image of, with a component that has more partial maps than the limit
+abbrev pub IsPastSearchLimit : (Text → FileSeen) → Command → Settings → List Quad → Type 0
+IsPastSearchLimit file (on_file task word) settings image = ⊥
+IsPastSearchLimit file (compare first second) settings image = ⊥
+IsPastSearchLimit file (lean word) settings image = IfAccepted (file word) (λ content. IsPastMaps content.dataset settings.limit image)
+IsPastSearchLimit file (load n) settings image = ⊥
 
 abbrev pub Stops : (Text → FileSeen) → Command → Settings → Status → Type 0
 Stops file command settings NoMemory = Unit {0}
-Stops file command settings (Refused refusal) = IsOfFile file command refusal.file (λ seen. IfSome seen.told (λ bytes. IsCause bytes refusal.cause))
+Stops file command settings (Refused refusal) = IsRefused file command refusal.file refusal.cause
 Stops file command settings (ReadFault place) = IsOfFile file command place (λ seen. Rose seen.faults seen.faults_now)
 Stops file command settings (WorkLimit place limit) = (limit ≡ settings.limit) × IsPastLimit file command settings place
+Stops file command settings Different = AreCompared file command settings AreDifferent
+Stops file command settings (Undecided s t) = AreCompared file command settings (λ ρ D E. AreUndecided ρ D E s t)
+Stops file command settings (SearchLimit limit image) = (limit ≡ settings.limit) × IsPastSearchLimit file command settings image
 Stops file command settings status = ⊥
 
 -- ---- the answer

@@ -1,13 +1,22 @@
--- Why a file gave no dataset, and what it says where it did.
-use Rattle.std.specs.Prelude.{◌≡◌, ℕ, IfSome}
+-- A file that was fed to a reader, why a file gave no dataset, and what it says where it did.
+use Rattle.std.specs.Prelude.{◌≡◌, ℕ, ◌≤◌, Option, IfSome, length}
 use Rattle.rdf_terms.specs.Lists.{Text}
 use Rattle.rdf_terms.specs.Document.{Document, dataset}
 use Rattle.outside.specs.Faults.{Rose}
+use Rattle.nquads_reader.specs.Pieces.{Reader, StandsFor}
 use Rattle.rdfc_cli.specs.declared.status.Status.{Status}
 use Rattle.rdfc_cli.specs.declared.status.Status.TheVariants.{Refused as RefusedStatus, ReadFault, NoMemory as NoMemoryStatus}
 use Rattle.rdfc_cli.specs.Answers.{Content, FileSeen, IsCause}
-use Rattle.rdfc_cli.specs.declared.dataset_file.FileFault.{FileFault}
-use Rattle.rdfc_cli.specs.declared.dataset_file.FileFault.TheVariants.{Failed, Refused, NoMemory}
+use Rattle.rdfc_cli.specs.declared.files.TheConstants.{FILE_LIMIT}
+use Rattle.rdfc_cli.specs.declared.files.FileFault.{FileFault}
+use Rattle.rdfc_cli.specs.declared.files.FileFault.TheVariants.{Failed, Refused, NoMemory}
+
+-- the reader was fed a whole file within the limit: its bytes, where they are told
+pub record IsFed (told : Option Text) (reader : Reader) : Type 0 where
+  pub bytes : Text
+  pub whole : IfSome told (λ all. bytes ≡ all)
+  pub within : length bytes ≤ FILE_LIMIT
+  pub stands : StandsFor reader bytes
 
 abbrev pub content_of : Document → Content
 content_of d = record { dataset = dataset d; labels = d.labels }

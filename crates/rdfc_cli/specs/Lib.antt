@@ -6,7 +6,10 @@ pub mod Puts
 pub mod Notes
 pub mod NoteParts
 pub mod Reports
+pub mod Leaning
 pub mod Answers
 pub mod FileFaults
 pub mod Outputs
+pub mod Forms
 pub mod Headline
+pub mod Completeness

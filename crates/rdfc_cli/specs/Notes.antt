@@ -8,9 +8,9 @@ use Rattle.rdfc_cli.specs.Puts.{IsCutShort}
 use Rattle.nquads_reader.specs.declared.TheConstants.{MAX_QUADS}
 use Rattle.rdfc_cli.specs.declared.files.TheConstants.{FILE_LIMIT}
 use Rattle.rdfc_cli.specs.declared.status.Status.{Status}
-use Rattle.rdfc_cli.specs.declared.status.Status.TheVariants.{Done, Usage, Unsettled, Refused, ReadFault, WriteFault, WorkLimit, NoMemory}
+use Rattle.rdfc_cli.specs.declared.status.Status.TheVariants.{Done, Different, Usage, Unsettled, Refused, ReadFault, WriteFault, WorkLimit, NoMemory, Undecided, SearchLimit}
 use Rattle.rdfc_cli.specs.declared.status.Cause.{Cause}
-use Rattle.rdfc_cli.specs.declared.status.Cause.TheVariants.{TooLong, NotUtf8, BadLine, RelativeIri, TooManyQuads}
+use Rattle.rdfc_cli.specs.declared.status.Cause.TheVariants.{TooLong, NotUtf8, BadLine, RelativeIri, TooManyQuads, NotOneGraph}
 
 -- what is said of a refused file, behind its word
 abbrev pub cause_text : Cause → Text
@@ -19,10 +19,12 @@ cause_text (NotUtf8 line) = codes ":" ++ (numeral line ++ codes ": not UTF-8")
 cause_text (BadLine line) = codes ":" ++ (numeral line ++ codes ": not an N-Quads line")
 cause_text (RelativeIri line) = codes ":" ++ (numeral line ++ codes ": IRI without a scheme")
 cause_text TooManyQuads = codes ": more than " ++ (numeral MAX_QUADS ++ codes " quads")
+cause_text NotOneGraph = codes ": a quad has a graph name"
 
 -- what is said of a status, where the files of the command have these words by their places
 abbrev pub status_text : (ℕ → Text) → Status → Text
 status_text word Done = []
+status_text word Different = codes "not isomorphic"
 status_text word Usage = codes "the words are not a command"
 status_text word (Unsettled tie) = word 0 ++ codes ": a tie is unsettled"
 status_text word (Refused refusal) = word refusal.file ++ cause_text refusal.cause
@@ -30,6 +32,8 @@ status_text word (ReadFault place) = word place ++ codes ": read failed"
 status_text word WriteFault = codes "write failed"
 status_text word (WorkLimit place limit) = word place ++ (codes ": work limit " ++ (numeral limit ++ codes " passed"))
 status_text word NoMemory = codes "out of memory"
+status_text word (Undecided s t) = codes "undecided"
+status_text word (SearchLimit limit image) = word 0 ++ (codes ": search limit " ++ (numeral limit ++ codes " passed"))
 
 abbrev pub note_line : (ℕ → Text) → Status → Text
 note_line word status = codes "rdfc: " ++ (status_text word status ++ codes "\n")

@@ -1,22 +1,30 @@
 -- A text that is ready to be written, and what the run that it comes from found.
-use Rattle.std.specs.Prelude.{◌≡◌, Option, Some, None}
+use Rattle.std.specs.Prelude.{◌≡◌, ℕ, Option, Some, None}
 use Rattle.std.specs.Io.KnownBytes.{Appends}
 use Rattle.rdf_terms.specs.Lists.{Text}
-use Rattle.rdf_terms.specs.Document.{Document, dataset}
+use Rattle.rdf_terms.specs.Document.{Document, dataset, statements}
+use Rattle.lean_search.specs.declared.form.LeanStop.{LeanStop}
+use Rattle.lean_search.specs.declared.form.LeanStop.TheVariants.{NotOneGraph as NotOneGraphStop, SearchLimit as SearchLimitStop, NoMemory as NoMemoryStop}
 use Rattle.ndegree_hash.specs.declared.tie.Tie.{Tie}
 use Rattle.rdfc_cli.specs.Puts.{IsCutShort}
-use Rattle.rdfc_cli.specs.Reports.{IsTextOf}
+use Rattle.rdfc_cli.specs.Leaning.{IsLeaning, HasGraphName, IsPastMaps}
+use Rattle.rdfc_cli.specs.Reports.{IsTextOf, IsSummary}
 use Rattle.canon_model.specs.Output.{PassesLimit}
 use Rattle.rdfc_cli.specs.Answers.{IsRunText, hashing_of}
 use Rattle.rdfc_cli.specs.declared.options.Settings.{Settings}
 use Rattle.rdfc_cli.specs.declared.output.Output.{Output}
 use Rattle.rdfc_cli.specs.declared.words.Task.{Task}
+use Rattle.rdfc_cli.specs.declared.status.Cause.TheVariants.{NotOneGraph}
 use Rattle.rdfc_cli.specs.declared.status.Status.{Status}
-use Rattle.rdfc_cli.specs.declared.status.Status.TheVariants.{Done, Unsettled, WriteFault, WorkLimit, NoMemory}
+use Rattle.rdfc_cli.specs.declared.status.Status.TheVariants.{Done, Unsettled, Refused, WriteFault, WorkLimit, NoMemory, SearchLimit}
 
 -- the output of a task for the dataset of this document
 abbrev pub IsTaskOutput : Task → Settings → Document → Output → Type 0
 IsTaskOutput task settings d output = IsRunText settings output.unsettled (λ ρ. IsTextOf task ρ (dataset d) d.labels) (dataset d) output.text
+
+-- the summary of the dataset of this document
+abbrev pub IsSummaryOutput : Settings → Document → Output → Type 0
+IsSummaryOutput settings d output = IsRunText settings output.unsettled (λ ρ. IsSummary ρ (dataset d)) (dataset d) output.text
 
 -- what was taken of the output, by the status
 abbrev pub Delivers : Option Text → Option Text → Output → Status → Type 0
@@ -30,3 +38,20 @@ abbrev pub IsRunStop : Settings → Document → Status → Type 0
 IsRunStop settings d (WorkLimit place limit) = (place ≡ 0) × (limit ≡ settings.limit) × PassesLimit (hashing_of settings) (dataset d) settings.limit
 IsRunStop settings d NoMemory = Unit {0}
 IsRunStop settings d status = ⊥
+
+-- what `lean` writes of the dataset of this document
+abbrev pub IsLeanOutput : Settings → Document → Output → Type 0
+IsLeanOutput settings d output = (output.unsettled ≡ None) × IsLeaning settings.map (dataset d) output.text
+
+-- the status that a run ends with for which there is no lean form
+abbrev pub EndsAs : LeanStop → ℕ → Status → Type 0
+EndsAs (NotOneGraphStop quad) limit status = status ≡ Refused (record { file = 0; cause = NotOneGraph })
+EndsAs (SearchLimitStop image) limit status = status ≡ SearchLimit limit image
+EndsAs NoMemoryStop limit status = status ≡ NoMemory
+
+-- why `lean` writes nothing of it
+abbrev pub IsLeanEnd : Settings → Document → Status → Type 0
+IsLeanEnd settings d (Refused refusal) = (refusal ≡ record { file = 0; cause = NotOneGraph }) × HasGraphName (statements d)
+IsLeanEnd settings d (SearchLimit limit image) = (limit ≡ settings.limit) × IsPastMaps (dataset d) settings.limit image
+IsLeanEnd settings d NoMemory = Unit {0}
+IsLeanEnd settings d status = ⊥

@@ -1,8 +1,9 @@
 -- The texts that the commands write.
 use Rattle.std.specs.Prelude.{◌≡◌, ℕ, ◌<◌, List, [], ◌++◌, flat_map, length, Option, Some, None, codes}
-use Rattle.rdf_terms.specs.Lists.{Text, In}
+use Rattle.rdf_terms.specs.Lists.{Text, In, numbers_below}
 use Rattle.rdf_terms.specs.Numeral.{numeral}
 use Rattle.rdf_terms.specs.Dataset.{Dataset}
+use Rattle.rdf_terms.specs.Isomorphism.{Relabelling, Carries}
 use Rattle.rdf_terms.specs.Document.{label_at}
 use Rattle.rdf_terms.specs.CanonicalForm.{issued_names}
 use Rattle.rdf_terms.specs.declared.term.Prefix.TheVariants.{Canonical}
@@ -75,6 +76,42 @@ pub record IsHashLine (ρ : Hashing) (D : Dataset) (text : Text) : Type 0 where
   pub form : Text
   pub is_form : IsOutputOf ρ D form
   pub text_is : text ≡ ρ.hash form ++ codes "\n"
+
+-- ---- the summary of `load`
+
+abbrev pub summary_text : ℕ → ℕ → ℕ → ℕ → ℕ → Text → Text
+summary_text quads nodes units ties joined hash = number_line (codes "quads") quads ++ (number_line (codes "nodes") nodes ++ (count_lines units ties joined ++ (codes "hash " ++ (hash ++ codes "\n"))))
+
+-- how many quads and nodes the dataset has, what its run counted, and the hash of its canonical form
+pub record IsSummary (ρ : Hashing) (D : Dataset) (text : Text) : Type 0 where
+  pub joined : ℕ
+  pub form : Text
+  pub count : JoinedCount D (ties_of_run ρ D) joined
+  pub is_form : IsOutputOf ρ D form
+  pub text_is : text ≡ summary_text (length D.statements) D.nodes (units_of ρ D) (length (ties_of_run ρ D)) joined (ρ.hash form)
+
+-- ---- the map of a comparison
+
+-- the label of a node of the first file, a space, and that of the node of the second that it is carried to
+abbrev pub partner_line : List Label → List Label → (ℕ → ℕ) → ℕ → Text
+partner_line labels others σ n = label_in labels n ++ (codes " " ++ (label_in others (σ n) ++ codes "\n"))
+
+-- a line for each node, in order of number
+unfoldable pub partner_text : List Label → List Label → (ℕ → ℕ) → ℕ → Text
+partner_text labels others σ nodes = flat_map (partner_line labels others σ) (numbers_below nodes)
+
+-- the lines of an isomorphism (RDF 1.1 Concepts, section 4.1): a bijection of the nodes that carries the quads of D exactly to those of E
+pub record ArePartnerLines (D E : Dataset) (labels others : List Label) (text : Text) : Type 0 where
+  pub relabelling : Relabelling D.nodes
+  pub carries : Carries relabelling.to D E
+  pub text_is : text ≡ partner_text labels others relabelling.to D.nodes
+
+-- the same by pairs of nodes
+abbrev pub pair_line : List Label → List Label → ℕ × ℕ → Text
+pair_line labels others p = label_in labels p.0 ++ (codes " " ++ (label_in others p.1 ++ codes "\n"))
+
+abbrev pub pairs_text : List Label → List Label → List (ℕ × ℕ) → Text
+pairs_text labels others pairs = flat_map (pair_line labels others) pairs
 
 -- ---- what is written for one file
 

@@ -2,13 +2,16 @@
 use Rattle.std.specs.Prelude.{◌≡◌, List}
 use Rattle.rdf_terms.specs.Lists.{Text}
 use Rattle.rdfc_cli.specs.Words.{Command, Given, IsCommand, settings_in, command_word, operands, HasGoodOperands}
-use Rattle.rdfc_cli.specs.Words.Command.{on_file}
+use Rattle.rdfc_cli.specs.Words.Command.{on_file, compare, lean, load}
 use Rattle.rdfc_cli.specs.declared.words.Command.{Command as ReadCommand}
-use Rattle.rdfc_cli.specs.declared.words.Command.TheVariants.{OnFile}
+use Rattle.rdfc_cli.specs.declared.words.Command.TheVariants.{OnFile, Compare, Lean, Load}
 use Rattle.rdfc_cli.specs.declared.words.Request.{Request}
 
 abbrev pub command_of : ReadCommand → Command
 command_of (OnFile task file) = on_file task file.now
+command_of (Compare first second) = compare first.now second.now
+command_of (Lean file) = lean file.now
+command_of (Load number) = load number
 
 -- the words are this command, with options that set this
 pub record IsRequest (words : List Text) (request : Request) : Type 0 where

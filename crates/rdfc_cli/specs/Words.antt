@@ -1,14 +1,15 @@
 -- The grammar of the command line: a command, its options in any order, and its operands.
-use Rattle.std.specs.Prelude.{◌≡◌, ◌≢◌, ℕ, ◌≤◌, List, [], ◌∷◌, ◌++◌, Option, Some, None, flat_map, map, codes, unwrap_or}
+use Rattle.std.specs.Prelude.{◌≡◌, ◌≢◌, ◌==◌, if◌then◌else◌, ℕ, ◌≤◌, Bool, true, false, List, [], ◌∷◌, ◌++◌, Option, Some, None, flat_map, map, codes, unwrap_or}
 use Rattle.rdf_terms.specs.Lists.{Text, In, AreDistinct}
 use Rattle.rdf_terms.specs.Numeral.{numeral}
 use Rattle.canon_model.specs.declared.profile.HashKind.{HashKind}
 use Rattle.canon_model.specs.declared.profile.HashKind.TheVariants.{Sha256, Sha384}
 use Rattle.canon_model.specs.declared.profile.Related.{Related as Reading}
 use Rattle.canon_model.specs.declared.profile.Related.TheVariants.{Each, Once}
+use Rattle.load_document.specs.declared.generator.TheConstants.{LEAST_NUMBER, GREATEST_NUMBER}
 use Rattle.rdfc_cli.specs.declared.options.TheConstants.{LEAST_LIMIT, GREATEST_LIMIT, DEFAULT_LIMIT}
 use Rattle.rdfc_cli.specs.declared.options.OptionName.{OptionName}
-use Rattle.rdfc_cli.specs.declared.options.OptionName.TheVariants.{Limit, Hash, Related}
+use Rattle.rdfc_cli.specs.declared.options.OptionName.TheVariants.{Limit, Hash, Related, Map as MapName}
 use Rattle.rdfc_cli.specs.declared.options.Settings.{Settings}
 use Rattle.rdfc_cli.specs.declared.words.Task.{Task}
 use Rattle.rdfc_cli.specs.declared.words.Task.TheVariants.{Canon, Hash as HashTask, Map, Ties}
@@ -18,6 +19,9 @@ use Rattle.rdfc_cli.specs.declared.words.Task.TheVariants.{Canon, Hash as HashTa
 -- a command with its operands
 pub data Command : Type 0 where
   on_file : Task → Text → Command
+  compare : Text → Text → Command
+  lean : Text → Command
+  load : ℕ → Command
 
 abbrev pub task_word : Task → Text
 task_word Canon = codes "canon"
@@ -27,9 +31,15 @@ task_word Ties = codes "ties"
 
 abbrev pub command_word : Command → Text
 command_word (on_file task file) = task_word task
+command_word (compare first second) = codes "compare"
+command_word (lean file) = codes "lean"
+command_word (load n) = codes "load"
 
 abbrev pub operands : Command → List Text
 operands (on_file task file) = file ∷ []
+operands (compare first second) = first ∷ second ∷ []
+operands (lean file) = file ∷ []
+operands (load n) = numeral n ∷ []
 
 -- a file's word is not empty and does not begin with a dash
 abbrev pub IsFileWord : Text → Type 0
@@ -38,28 +48,37 @@ IsFileWord (first ∷ more) = first ≢ 45
 
 abbrev pub HasGoodOperands : Command → Type 0
 HasGoodOperands (on_file task file) = IsFileWord file
+HasGoodOperands (compare first second) = IsFileWord first × IsFileWord second
+HasGoodOperands (lean file) = IsFileWord file
+HasGoodOperands (load n) = (LEAST_NUMBER ≤ n) × (n ≤ GREATEST_NUMBER)
 
--- the word of a file of the command, by its place
+-- the word of a file of the command, by its place, counted from 0; a document that is made is called `load`
 abbrev pub file_word : Command → ℕ → Text
 file_word (on_file task file) place = file
+file_word (compare first second) place = if place == 0 then first else second
+file_word (lean file) place = file
+file_word (load n) place = codes "load"
 
 -- ---- options
 
--- an option with its value
+-- an option, with its value where it has one
 pub data Given : Type 0 where
   limit : ℕ → Given
   hash : HashKind → Given
   related : Reading → Given
+  as_map : Given
 
 abbrev pub option_name : Given → OptionName
 option_name (limit n) = Limit
 option_name (hash kind) = Hash
 option_name (related reading) = Related
+option_name as_map = MapName
 
 abbrev pub name_word : OptionName → Text
 name_word Limit = codes "--limit"
 name_word Hash = codes "--hash"
 name_word Related = codes "--related"
+name_word MapName = codes "--map"
 
 abbrev pub hash_word : HashKind → Text
 hash_word Sha256 = codes "sha256"
@@ -69,23 +88,41 @@ abbrev pub related_word : Reading → Text
 related_word Each = codes "each"
 related_word Once = codes "once"
 
-abbrev pub option_value : Given → Text
-option_value (limit n) = numeral n
-option_value (hash kind) = hash_word kind
-option_value (related reading) = related_word reading
+-- the word behind the name, if there is one
+abbrev pub option_value : Given → List Text
+option_value (limit n) = numeral n ∷ []
+option_value (hash kind) = hash_word kind ∷ []
+option_value (related reading) = related_word reading ∷ []
+option_value as_map = []
 
 abbrev pub spelled_option : Given → List Text
-spelled_option given = name_word (option_name given) ∷ option_value given ∷ []
+spelled_option given = name_word (option_name given) ∷ option_value given
 
 -- the values that an option may have
 abbrev pub HasGoodValue : Given → Type 0
 HasGoodValue (limit n) = (LEAST_LIMIT ≤ n) × (n ≤ GREATEST_LIMIT)
 HasGoodValue (hash kind) = Unit {0}
 HasGoodValue (related reading) = Unit {0}
+HasGoodValue as_map = Unit {0}
 
--- which options a command takes
+-- which options a command takes: a comparison is under the default profile alone, and only `lean` has a map to show in place of its graph
 abbrev pub TakesOption : Command → Given → Type 0
-TakesOption (on_file task file) given = Unit {0}
+TakesOption (on_file task file) (limit n) = Unit {0}
+TakesOption (on_file task file) (hash kind) = Unit {0}
+TakesOption (on_file task file) (related reading) = Unit {0}
+TakesOption (on_file task file) as_map = ⊥
+TakesOption (compare first second) (limit n) = Unit {0}
+TakesOption (compare first second) (hash kind) = ⊥
+TakesOption (compare first second) (related reading) = ⊥
+TakesOption (compare first second) as_map = ⊥
+TakesOption (lean file) (limit n) = Unit {0}
+TakesOption (lean file) (hash kind) = ⊥
+TakesOption (lean file) (related reading) = ⊥
+TakesOption (lean file) as_map = Unit {0}
+TakesOption (load n) (limit m) = Unit {0}
+TakesOption (load n) (hash kind) = Unit {0}
+TakesOption (load n) (related reading) = Unit {0}
+TakesOption (load n) as_map = ⊥
 
 -- the words are the command's word, its options and its operands
 pub record IsCommand (words : List Text) (command : Command) (options : List Given) : Type 0 where
@@ -105,22 +142,33 @@ given_limit [] = None
 given_limit (limit n ∷ options) = Some n
 given_limit (hash kind ∷ options) = given_limit options
 given_limit (related reading ∷ options) = given_limit options
+given_limit (as_map ∷ options) = given_limit options
 
 abbrev pub given_hash : List Given → Option HashKind
 given_hash [] = None
 given_hash (limit n ∷ options) = given_hash options
 given_hash (hash kind ∷ options) = Some kind
 given_hash (related reading ∷ options) = given_hash options
+given_hash (as_map ∷ options) = given_hash options
 
 abbrev pub given_related : List Given → Option Reading
 given_related [] = None
 given_related (limit n ∷ options) = given_related options
 given_related (hash kind ∷ options) = given_related options
 given_related (related reading ∷ options) = Some reading
+given_related (as_map ∷ options) = given_related options
+
+abbrev pub given_map : List Given → Bool
+given_map [] = false
+given_map (limit n ∷ options) = given_map options
+given_map (hash kind ∷ options) = given_map options
+given_map (related reading ∷ options) = given_map options
+given_map (as_map ∷ options) = true
 
 -- what is given, and else the default: SHA-256, with an entry for each time that a node is met
 abbrev pub settings_in : List Given → Settings
 settings_in options = record {
   limit = unwrap_or (given_limit options) DEFAULT_LIMIT;
   profile = record { hash = unwrap_or (given_hash options) Sha256; related = unwrap_or (given_related options) Each };
+  map = given_map options;
 }

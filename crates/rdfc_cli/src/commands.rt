@@ -1,24 +1,33 @@
 //! The commands, from their words to what they write.
-ghost use Rattle.std.specs.Prelude.{◌≡◌, ◌↔◌, List, map, string_bytes, IfOk, IfErr, MatchOption};
+ghost use Rattle.std.specs.Prelude.{◌≡◌, ◌↔◌, ◌≤◌, List, map, string_bytes, IfOk, IfErr, MatchOption};
+ghost use Rattle.rdf_terms.specs.Lists.{Text};
 ghost use Rattle.outside.specs.Faults.{Rose};
-ghost use Rattle.rdfc_cli.specs.Words.{Command as SpelledCommand, Given, IsCommand, IsNoCommand, settings_in, file_word};
-ghost use Rattle.rdfc_cli.specs.Words.Command.{on_file};
+ghost use Rattle.rdfc_cli.specs.Words.{Command as SpelledCommand, Given, HasGoodOperands, IsCommand, IsNoCommand, settings_in, file_word};
+ghost use Rattle.rdfc_cli.specs.Words.Command.{on_file, compare, lean, load};
 ghost use Rattle.rdfc_cli.specs.Requests.{command_of};
-ghost use Rattle.rdfc_cli.specs.Answers.{seen, IsWritten, Stops, Answers};
+ghost use Rattle.rdfc_cli.specs.Answers.{FileSeen, seen, IsWritten, Stops, Answers};
 ghost use Rattle.rdfc_cli.specs.FileFaults.{IsFaultStatus};
-ghost use Rattle.rdfc_cli.specs.Outputs.{Delivers, IsTaskOutput, IsRunStop};
+ghost use Rattle.rdfc_cli.specs.Outputs.{Delivers, IsTaskOutput, IsRunStop, IsLeanOutput, IsLeanEnd, EndsAs};
 ghost use Rattle.rdfc_cli.specs.Notes.{IsNoted, PutsLine, usage_line};
 
-use crate::dataset_file::{FileFault, read_dataset};
+use crate::comparison::output_of_forms;
+use crate::dataset_file::read_dataset;
+use crate::files::FileFault;
+use crate::form::form_of_file;
+use crate::lean_text::lean_text;
+use crate::made::{made_dataset, summary_output};
 use crate::notes::{put_note, put_usage};
 use crate::options::Settings;
 use crate::output::{Output, task_output};
-use crate::status::{Refusal, Status};
+use crate::status::{Cause, Refusal, Status};
 use crate::words::{Command, Request, Task, read_words};
 use crate::write::put_all;
 use dataset_index::Dataset;
+use lean_search::LeanStop;
+use load_document::{GREATEST_NUMBER, LEAST_NUMBER};
 use ndegree_hash::{Stop, Tie};
 use outside::{Shelf, Sink};
+use rdf_terms::NoMemory;
 use std::alloc::Global;
 use std::hash::RandomState;
 
@@ -79,6 +88,7 @@ fn output_of<S: Shelf>(
     request: Request<'_>,
     shelf: &mut S,
 ) -> Result<Output, Status>
+    requires { HasGoodOperands (command_of request.command) }
     ensures output { IfOk result (λ output. IsWritten (seen S.told S.faults shelf.old shelf.new) (command_of request.entry.command) request.entry.settings output.unsettled output.text) }
     ensures stops { IfErr result (Stops (seen S.told S.faults shelf.old shelf.new) (command_of request.entry.command) request.entry.settings) }
 {
@@ -91,6 +101,102 @@ fn output_of<S: Shelf>(
             shelf,
             file,
         ),
+        Command::Compare { first, second } => output_of_pair(
+            alloc,
+            keys,
+            request.settings,
+            shelf,
+            first,
+            second,
+        ),
+        Command::Lean { file } => output_of_graph(alloc, keys, request.settings, shelf, file),
+        Command::Load { number } => output_of_number(alloc, keys, request.settings, number),
+    }
+}
+
+// How a run ends that leans no graph.
+fn lean_status(stop: LeanStop, limit: u64) -> Status
+    ensures { EndsAs stop limit result }
+{
+    match stop {
+        LeanStop::NotOneGraph { .. } => Status::Refused(Refusal {
+            file: 0,
+            cause: Cause::NotOneGraph,
+        }),
+        LeanStop::SearchLimit { image } => Status::SearchLimit { limit, image },
+        LeanStop::NoMemory => Status::NoMemory,
+    }
+}
+
+// What is written of a graph, or how the run stops.
+fn output_of_lean(alloc: Global, settings: Settings, graph: &Dataset) -> Result<Output, Status>
+    ensures output { IfOk result (IsLeanOutput settings graph.now) }
+    ensures stops { IfErr result (IsLeanEnd settings graph.now) }
+{
+    match lean_text(alloc, settings, graph) {
+        Ok(text) => Ok(Output {
+            text,
+            unsettled: None,
+        }),
+        Err(stop) => Err(lean_status(stop, settings.limit)),
+    }
+}
+
+// What is written of the graph of a file.
+fn output_of_graph<S: Shelf>(
+    alloc: Global,
+    keys: RandomState,
+    settings: Settings,
+    shelf: &mut S,
+    file: &str,
+) -> Result<Output, Status>
+    ensures output { IfOk result (λ output. IsWritten (seen S.told S.faults shelf.old shelf.new) (lean file.now) settings output.unsettled output.text) }
+    ensures stops { IfErr result (Stops (seen S.told S.faults shelf.old shelf.new) (lean file.now) settings) }
+{
+    match read_dataset(alloc, keys, shelf, file) {
+        Ok(graph) => output_of_lean(alloc, settings, &graph),
+        Err(fault) => Err(fault.status(0)),
+    }
+}
+
+// What is written of two files. The first is read and judged whole, and its dataset given up, before the second is
+// started.
+fn output_of_pair<S: Shelf>(
+    alloc: Global,
+    keys: RandomState,
+    settings: Settings,
+    shelf: &mut S,
+    first: &str,
+    second: &str,
+) -> Result<Output, Status>
+    ensures output { IfOk result (λ output. IsWritten (seen S.told S.faults shelf.old shelf.new) (compare first.now second.now) settings output.unsettled output.text) }
+    ensures stops { IfErr result (Stops (seen S.told S.faults shelf.old shelf.new) (compare first.now second.now) settings) }
+{
+    let form = match form_of_file(alloc, keys, settings, shelf, first) {
+        Ok(form) => form,
+        Err(fault) => return Err(fault.status(0)),
+    };
+    match form_of_file(alloc, keys, settings, shelf, second) {
+        Ok(other) => output_of_forms(alloc, settings, form, other),
+        Err(fault) => Err(fault.status(1)),
+    }
+}
+
+// The summary of the document that is made from a number.
+fn output_of_number(
+    alloc: Global,
+    keys: RandomState,
+    settings: Settings,
+    number: u32,
+) -> Result<Output, Status>
+    requires least { LEAST_NUMBER ≤ number }
+    requires greatest { number ≤ GREATEST_NUMBER }
+    ensures output { (file : Text → FileSeen) → IfOk result (λ output. IsWritten file (load number) settings output.unsettled output.text) }
+    ensures stops { (file : Text → FileSeen) → IfErr result (Stops file (load number) settings) }
+{
+    match made_dataset(alloc, keys, number) {
+        Ok(dataset) => summary_output(alloc, settings, &dataset),
+        Err(NoMemory) => Err(Status::NoMemory),
     }
 }
 
@@ -123,6 +229,7 @@ fn execute<S: Shelf, K: Sink>(
     shelf: &mut S,
     out: &mut K,
 ) -> Status
+    requires { HasGoodOperands (command_of request.command) }
     ensures { Answers K.taken K.faults (seen S.told S.faults shelf.old shelf.new) (command_of request.entry.command) request.entry.settings out.old out.new result }
 {
     match output_of(alloc, keys, request, shelf) {

@@ -3,34 +3,18 @@ ghost use Rattle.std.specs.Prelude.{◌≡◌, ◌≤◌, length, IfOk, IfErr, I
 ghost use Rattle.rdf_terms.specs.Lists.{Text};
 ghost use Rattle.rdf_terms.specs.Document.{statements};
 ghost use Rattle.nquads_reader.specs.Document.{IsCauseOf};
+ghost use Rattle.nquads_reader.specs.Pieces.{StandsFor};
 ghost use Rattle.rdfc_cli.specs.Answers.{States, Accepts, seen};
 ghost use Rattle.rdfc_cli.specs.FileFaults.{content_of, IsFileFault, IsTextFault};
-ghost use Rattle.rdfc_cli.specs.declared.dataset_file.FileFault.TheVariants.{NoMemory as Memory};
 
-use crate::files::{FILE_LIMIT, LoadFault, load};
+use crate::files::{FILE_LIMIT, FileFault, feed_file};
 use crate::status::Cause;
 use dataset_index::Dataset;
-use nquads_reader::{ReadFault, read_nquads};
+use nquads_reader::{LineReader, ReadFault};
 use outside::Shelf;
-use rdf_terms::{NoMemory, Parsed};
+use rdf_terms::Parsed;
 use std::alloc::Global;
 use std::hash::RandomState;
-
-/// Why a file gave no dataset.
-#[derive(Clone, Copy, Debug, PartialEq, Eq)]
-pub(crate) enum FileFault {
-    Failed,
-    Refused(Cause),
-    NoMemory,
-}
-
-impl From<NoMemory> for FileFault {
-    ghost from_gives = { λ _ e. e ≡ Memory };
-
-    fn from(_: NoMemory) -> Self {
-        FileFault::NoMemory
-    }
-}
 
 fn refused_by_reader(fault: ReadFault) -> FileFault
     ensures { (bytes : Text) → length bytes ≤ FILE_LIMIT → IsCauseOf bytes fault → IsTextFault bytes result }
@@ -44,42 +28,26 @@ fn refused_by_reader(fault: ReadFault) -> FileFault
     }
 }
 
-// What the bytes of a file within the limit state.
-fn read_document(alloc: Global, keys: RandomState, bytes: &[u8]) -> Result<Parsed, FileFault>
-    requires { length bytes.now ≤ FILE_LIMIT }
-    ensures stated { IfOk result (λ parsed. States bytes.now parsed.labels (statements parsed)) }
-    ensures fault { IfErr result (IsTextFault bytes.now) }
+// What the bytes state that the reader was fed, where they are within the limit.
+fn document_of(reader: LineReader) -> Result<Parsed, FileFault>
+    ensures stated { (bytes : Text) → length bytes ≤ FILE_LIMIT → StandsFor reader bytes → IfOk result (λ parsed. States bytes parsed.labels (statements parsed)) }
+    ensures fault { (bytes : Text) → length bytes ≤ FILE_LIMIT → StandsFor reader bytes → IfErr result (IsTextFault bytes) }
 {
-    match read_nquads(alloc, keys, bytes) {
+    match reader.finish() {
         Ok(parsed) => Ok(parsed),
         Err(fault) => Err(refused_by_reader(fault)),
     }
 }
 
-fn dataset_of_document(alloc: Global, keys: RandomState, bytes: &[u8]) -> Result<Dataset, FileFault>
-    requires { length bytes.now ≤ FILE_LIMIT }
-    ensures accepted { IfOk result (λ d. Accepts bytes.now (content_of d)) }
-    ensures fault { IfErr result (IsTextFault bytes.now) }
+fn dataset_of_document(alloc: Global, reader: LineReader) -> Result<Dataset, FileFault>
+    ensures accepted { (bytes : Text) → length bytes ≤ FILE_LIMIT → StandsFor reader bytes → IfOk result (λ d. Accepts bytes (content_of d)) }
+    ensures fault { (bytes : Text) → length bytes ≤ FILE_LIMIT → StandsFor reader bytes → IfErr result (IsTextFault bytes) }
 {
-    let parsed = read_document(alloc, keys, bytes)?;
+    let parsed = document_of(reader)?;
     let dataset = Dataset::build(alloc, parsed)?;
     // Its count tells that the dataset is valid.
     let _nodes = dataset.node_count();
     Ok(dataset)
-}
-
-// Reads the file whole.
-fn read_file<S: Shelf>(alloc: Global, shelf: &mut S, file: &str) -> Result<Vec<u8>, FileFault>
-    ensures whole { IfOk result (λ bytes. IfSome (S.told shelf.old file.now) (λ told. bytes.items ≡ told)) }
-    ensures within { IfOk result (λ bytes. length bytes.items ≤ FILE_LIMIT) }
-    ensures fault { IfErr result (IsFileFault (seen S.told S.faults shelf.old shelf.new file.now)) }
-{
-    match load(alloc, shelf, file) {
-        Ok(bytes) => Ok(bytes),
-        Err(LoadFault::Failed) => Err(FileFault::Failed),
-        Err(LoadFault::TooLong) => Err(FileFault::Refused(Cause::TooLong)),
-        Err(LoadFault::NoMemory) => Err(FileFault::NoMemory),
-    }
 }
 
 /// The dataset of a file. It is judged after it was read to its end.
@@ -91,7 +59,9 @@ pub(crate) fn read_dataset<S: Shelf>(
 ) -> Result<Dataset, FileFault>
     ensures accepted { IfOk result (λ d. IfSome (S.told shelf.old file.now) (λ told. Accepts told (content_of d))) }
     ensures fault { IfErr result (IsFileFault (seen S.told S.faults shelf.old shelf.new file.now)) }
+    ensures told { (other : Text) → S.told shelf.new other ≡ S.told shelf.old other }
+    ensures never_fell { (other : Text) → S.faults shelf.old other ≤ S.faults shelf.new other }
 {
-    let bytes = read_file(alloc, shelf, file)?;
-    dataset_of_document(alloc, keys, &bytes)
+    let reader = feed_file(alloc, keys, shelf, file)?;
+    dataset_of_document(alloc, reader)
 }

@@ -1,66 +1,76 @@
-//! A file that is read whole.
-ghost use Rattle.std.specs.Prelude.{◌≡◌, ℕ, ◌<◌, ◌≤◌, List, length, vec_len, IfOk, IfSome, OnErr};
-ghost use Rattle.outside.specs.Faults.{Rose};
-ghost use Rattle.rdfc_cli.specs.declared.files.LoadFault.TheVariants.{Failed as Fault, NoMemory as Memory};
+//! A file that is read in pieces.
+ghost use Rattle.std.specs.Prelude.{◌≡◌, ℕ, ◌≤◌, List, vec_len, IfOk, IfErr};
+ghost use Rattle.rdfc_cli.specs.Answers.{seen};
+ghost use Rattle.rdfc_cli.specs.FileFaults.{IsFed, IsFileFault};
+ghost use Rattle.rdfc_cli.specs.declared.files.FileFault.TheVariants.{Failed as Fault, NoMemory as Memory};
 
+use crate::status::Cause;
+use nquads_reader::LineReader;
 use outside::{Failed, Shelf};
-use std::alloc::{AllocError, Global};
+use rdf_terms::NoMemory;
+use std::alloc::Global;
+use std::hash::RandomState;
 
 /// The most bytes that a file may have.
 pub const FILE_LIMIT: usize = 268_435_456;
 
 // How many bytes are asked for at once.
-const BUFFER_LEN: usize = 65_536;
+const PIECE_LEN: usize = 65_536;
 
-/// Why a file was not read whole.
+/// Why a file gave no dataset.
 #[derive(Clone, Copy, Debug, PartialEq, Eq)]
-pub enum LoadFault {
+pub(crate) enum FileFault {
     Failed,
-    TooLong,
+    Refused(Cause),
     NoMemory,
 }
 
-impl From<Failed> for LoadFault {
+impl From<Failed> for FileFault {
     ghost from_gives = { λ _ e. e ≡ Fault };
 
     fn from(_: Failed) -> Self {
-        LoadFault::Failed
+        FileFault::Failed
     }
 }
 
-impl From<AllocError> for LoadFault {
+impl From<NoMemory> for FileFault {
     ghost from_gives = { λ _ e. e ≡ Memory };
 
-    fn from(_: AllocError) -> Self {
-        LoadFault::NoMemory
+    fn from(_: NoMemory) -> Self {
+        FileFault::NoMemory
     }
 }
 
-fn zeros(alloc: Global, len: usize) -> Result<Vec<u8>, AllocError>
+fn zeros(alloc: Global, len: usize) -> Result<Vec<u8>, NoMemory>
     ensures { IfOk result (λ v. vec_len v ≡ len) }
 {
-    vec![in alloc; 0u8; len]
+    Ok(vec![in alloc; 0u8; len]?)
 }
 
-/// All the bytes of a file. The first call that fails ends the reading, and so does the first byte past the limit.
-pub fn load<S: Shelf>(alloc: Global, shelf: &mut S, name: &str) -> Result<Vec<u8>, LoadFault>
-    ensures whole { IfOk result (λ bytes. IfSome (S.told shelf.old name.now) (λ told. bytes.items ≡ told)) }
-    ensures within { IfOk result (λ bytes. vec_len bytes ≤ FILE_LIMIT) }
-    ensures too_long { result ≡ Err LoadFault.TooLong → IfSome (S.told shelf.old name.now) (λ told. FILE_LIMIT < length told) }
-    ensures failed { result ≡ Err LoadFault.Failed → Rose (S.faults shelf.old name.now) (S.faults shelf.new name.now) }
-
+/// A reader that was fed a whole file, of which it keeps what a reader keeps. The first call that fails ends the
+/// reading, and so does the first byte past the limit; what the reader was fed is given up then.
+pub(crate) fn feed_file<S: Shelf>(
+    alloc: Global,
+    keys: RandomState,
+    shelf: &mut S,
+    name: &str,
+) -> Result<LineReader, FileFault>
+    ensures fed { IfOk result (IsFed (S.told shelf.old name.now)) }
+    ensures fault { IfErr result (IsFileFault (seen S.told S.faults shelf.old shelf.new name.now)) }
     ensures told { (other : List ℕ) → S.told shelf.new other ≡ S.told shelf.old other }
     ensures never_fell { (other : List ℕ) → S.faults shelf.old other ≤ S.faults shelf.new other }
 {
-    let mut bytes = Vec::new(alloc);
-    let mut buf = zeros(alloc, BUFFER_LEN)?;
+    let mut reader = LineReader::new(alloc, keys);
+    let mut piece = zeros(alloc, PIECE_LEN)?;
+    let mut total = 0;
     shelf.start(name)?;
-    while bytes.len() <= FILE_LIMIT {
-        let count = shelf.next(name, &mut buf)?;
+    while total <= FILE_LIMIT {
+        let count = shelf.next(name, &mut piece)?;
         if count == 0 {
-            return Ok(bytes);
+            return Ok(reader);
         }
-        bytes.extend_from_slice(&buf[..count])?;
+        reader.feed(&piece[..count])?;
+        total += count;
     }
-    Err(LoadFault::TooLong)
+    Err(FileFault::Refused(Cause::TooLong))
 }

@@ -2,7 +2,7 @@
 #![tactic(auto)]
 
 pub use commands::run;
-pub use files::{FILE_LIMIT, LoadFault, load};
+pub use files::FILE_LIMIT;
 pub use notes::{put_note, put_usage};
 pub use options::{DEFAULT_LIMIT, GREATEST_LIMIT, LEAST_LIMIT, Settings};
 pub use status::{Cause, Refusal, Status};
@@ -10,10 +10,14 @@ pub use words::{Command, Request, Task, read_words};
 pub use write::put_all;
 
 mod commands;
+mod comparison;
 mod dataset_file;
 mod decimal;
 mod files;
+mod form;
 pub mod laws;
+mod lean_text;
+mod made;
 mod notes;
 mod options;
 mod output;

@@ -54,6 +54,7 @@ fn put_cause<N: Sink>(notes: &mut N, cause: Cause) -> Result<(), Failed>
         Cause::BadLine { line } => put_count(notes, ":", line, ": not an N-Quads line"),
         Cause::RelativeIri { line } => put_count(notes, ":", line, ": IRI without a scheme"),
         Cause::TooManyQuads => put_count(notes, ": more than ", MAX_QUADS, " quads"),
+        Cause::NotOneGraph => put_all(notes, b": a quad has a graph name"),
     }
 }
 
@@ -89,15 +90,21 @@ fn put_of_file<'a, N: Sink>(notes: &mut N, file: &'a str, said: &'a str) -> Resu
     put_parts(notes, &[Part::Text(file), Part::Text(said)])
 }
 
-fn put_limit<N: Sink>(notes: &mut N, file: &str, limit: u64) -> Result<(), Failed>
-    ensures bytes { Puts (N.taken notes.old) (N.taken notes.new) result (file.now ++ (codes ": work limit " ++ (numeral limit ++ codes " passed"))) }
+// The file's word, and that a limit of this kind was passed.
+fn put_limit<'a, N: Sink>(
+    notes: &mut N,
+    file: &'a str,
+    kind: &'a str,
+    limit: u64,
+) -> Result<(), Failed>
+    ensures bytes { Puts (N.taken notes.old) (N.taken notes.new) result (file.now ++ (kind.now ++ (numeral limit ++ codes " passed"))) }
     ensures cause { HasCause (N.faults notes.old) (N.faults notes.new) result }
 {
     put_parts(
         notes,
         &[
             Part::Text(file),
-            Part::Text(": work limit "),
+            Part::Text(kind),
             Part::Number(limit),
             Part::Text(" passed"),
         ],
@@ -110,6 +117,7 @@ fn put_status<N: Sink>(notes: &mut N, status: &Status, command: &Command<'_>) ->
 {
     match status {
         Status::Done => Ok(()),
+        Status::Different => put_all(notes, b"not isomorphic"),
         Status::Usage => put_all(notes, b"the words are not a command"),
         Status::Unsettled(_) => put_of_file(notes, command.file_word(0), ": a tie is unsettled"),
         Status::Refused(refusal) => {
@@ -119,8 +127,14 @@ fn put_status<N: Sink>(notes: &mut N, status: &Status, command: &Command<'_>) ->
             put_of_file(notes, command.file_word(*file), ": read failed")
         }
         Status::WriteFault => put_all(notes, b"write failed"),
-        Status::WorkLimit { file, limit } => put_limit(notes, command.file_word(*file), *limit),
+        Status::WorkLimit { file, limit } => {
+            put_limit(notes, command.file_word(*file), ": work limit ", *limit)
+        }
         Status::NoMemory => put_all(notes, b"out of memory"),
+        Status::Undecided(_, _) => put_all(notes, b"undecided"),
+        Status::SearchLimit { limit, .. } => {
+            put_limit(notes, command.file_word(0), ": search limit ", *limit)
+        }
     }
 }
 

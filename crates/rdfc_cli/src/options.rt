@@ -1,12 +1,12 @@
 //! The options of a command: how they are spelled, and what they set.
-ghost use Rattle.std.specs.Prelude.{◌≡◌, ℕ, ◌^◌, ◌<◌, ◌≤◌, List, length, map, string_bytes, IfSome, IfNone, None};
+ghost use Rattle.std.specs.Prelude.{◌≡◌, ◌↔◌, ℕ, ◌^◌, ◌<◌, ◌≤◌, List, [], ◌∷◌, false, length, map, string_bytes, IsTrue, IfSome, IfNone, None};
 ghost use Rattle.rdf_terms.specs.Lists.{Text};
 ghost use Rattle.rdf_terms.specs.Numeral.{numeral};
 ghost use Rattle.canon_model.specs.declared.profile.HashKind.{HashKind};
 ghost use Rattle.canon_model.specs.declared.profile.Related.{Related};
 ghost use Rattle.rdfc_cli.specs.Words.{Given, name_word, hash_word, related_word, settings_in};
-ghost use Rattle.rdfc_cli.specs.Words.Given.{limit as limit_given, hash as hash_given, related as related_given};
-ghost use Rattle.rdfc_cli.specs.Options.{options_in, MayFollow, Adds, AreOptions, AreNoOptions, BeginsNoOption, BeginsWithName, HasValue};
+ghost use Rattle.rdfc_cli.specs.Words.Given.{limit as limit_given, hash as hash_given, related as related_given, as_map as map_given};
+ghost use Rattle.rdfc_cli.specs.Options.{options_in, MayFollow, MayRead, Adds, Reads, AreOptions, AreNoOptions, BeginsNoOption, BeginsWithName};
 ghost use Rattle.rdfc_cli.specs.declared.options.OptionName.{OptionName};
 
 use crate::decimal::Decimal;
@@ -24,9 +24,12 @@ pub const DEFAULT_LIMIT: u64 = 200_000;
 /// What the options of a command set.
 #[derive(Clone, Copy, Debug, PartialEq, Eq)]
 pub struct Settings {
-    /// The most units that the canonicalization of one dataset may take.
+    /// The most units that the canonicalization of one dataset may take; of `lean`, the most partial maps that are tried
+    /// for a component.
     pub limit: u64,
     pub profile: Profile,
+    /// Whether `lean` writes the map onto the lean graph in place of the graph.
+    pub map: bool,
 }
 
 #[derive(Clone, Copy)]
@@ -34,6 +37,7 @@ enum OptionName {
     Limit,
     Hash,
     Related,
+    Map,
 }
 
 // The options that were read so far, each at most once.
@@ -42,6 +46,7 @@ pub(crate) struct Options {
     limit: Option<u64>,
     hash: Option<HashKind>,
     related: Option<Related>,
+    map: bool,
 }
 
 fn name_of(word: &str) -> Option<OptionName>
@@ -52,6 +57,7 @@ fn name_of(word: &str) -> Option<OptionName>
         "--limit" => Some(OptionName::Limit),
         "--hash" => Some(OptionName::Hash),
         "--related" => Some(OptionName::Related),
+        "--map" => Some(OptionName::Map),
         _ => None,
     }
 }
@@ -110,18 +116,19 @@ fn related_of(word: &str) -> Option<Related>
 
 impl Options {
     fn none() -> Self
-        ensures { result ≡ record { limit = None; hash = None; related = None } }
+        ensures { result ≡ record { limit = None; hash = None; related = None; map = false } }
     {
         Options {
             limit: None,
             hash: None,
             related: None,
+            map: false,
         }
     }
 
     fn with_limit(self, value: &str) -> Option<Self>
-        ensures some { IfSome result (λ new. Adds self new (name_word OptionName.Limit) value.now) }
-        ensures none { IfNone result ((n : ℕ) → ¬ (MayFollow self (limit_given n) (name_word OptionName.Limit) value.now)) }
+        ensures some { IfSome result (λ new. Adds self new (name_word OptionName.Limit ∷ value.now ∷ [])) }
+        ensures none { IfNone result ((n : ℕ) → ¬ (MayFollow self (limit_given n) (name_word OptionName.Limit ∷ value.now ∷ []))) }
     {
         match self.limit {
             None => Some(Options {
@@ -133,8 +140,8 @@ impl Options {
     }
 
     fn with_hash(self, value: &str) -> Option<Self>
-        ensures some { IfSome result (λ new. Adds self new (name_word OptionName.Hash) value.now) }
-        ensures none { IfNone result ((kind : HashKind) → ¬ (MayFollow self (hash_given kind) (name_word OptionName.Hash) value.now)) }
+        ensures some { IfSome result (λ new. Adds self new (name_word OptionName.Hash ∷ value.now ∷ [])) }
+        ensures none { IfNone result ((kind : HashKind) → ¬ (MayFollow self (hash_given kind) (name_word OptionName.Hash ∷ value.now ∷ []))) }
     {
         match self.hash {
             None => Some(Options {
@@ -146,8 +153,8 @@ impl Options {
     }
 
     fn with_related(self, value: &str) -> Option<Self>
-        ensures some { IfSome result (λ new. Adds self new (name_word OptionName.Related) value.now) }
-        ensures none { IfNone result ((reading : Related) → ¬ (MayFollow self (related_given reading) (name_word OptionName.Related) value.now)) }
+        ensures some { IfSome result (λ new. Adds self new (name_word OptionName.Related ∷ value.now ∷ [])) }
+        ensures none { IfNone result ((reading : Related) → ¬ (MayFollow self (related_given reading) (name_word OptionName.Related ∷ value.now ∷ []))) }
     {
         match self.related {
             None => Some(Options {
@@ -158,16 +165,45 @@ impl Options {
         }
     }
 
+    fn with_map(self) -> Option<Self>
+        ensures some { IfSome result (λ new. Adds self new (name_word OptionName.Map ∷ [])) }
+        ensures none { IfNone result (¬ (MayFollow self map_given (name_word OptionName.Map ∷ []))) }
+    {
+        if self.map {
+            None
+        } else {
+            Some(Options { map: true, ..self })
+        }
+    }
+
     // These and the option of this name with this value. `None` where it was read before, or can't have the value.
     fn with(self, name: OptionName, value: &str) -> Option<Self>
-        ensures some { IfSome result (λ new. Adds self new (name_word name) value.now) }
-        ensures none { IfNone result ((given : Given) → ¬ (MayFollow self given (name_word name) value.now)) }
+        ensures some { IfSome result (λ new. Adds self new (name_word name ∷ value.now ∷ [])) }
+        ensures none { IfNone result ((given : Given) → ¬ (MayFollow self given (name_word name ∷ value.now ∷ []))) }
     {
         match name {
             OptionName::Limit => self.with_limit(value),
             OptionName::Hash => self.with_hash(value),
             OptionName::Related => self.with_related(value),
+            OptionName::Map => None,
         }
+    }
+
+    /// Whether none of them was read that sets the profile.
+    pub(crate) fn leave_the_profile(&self) -> bool
+        ensures { IsTrue result ↔ ((self.now.hash ≡ None) × (self.now.related ≡ None)) }
+    {
+        match (self.hash, self.related) {
+            (None, None) => true,
+            _ => false,
+        }
+    }
+
+    /// Whether the graph is shown, and not the map.
+    pub(crate) fn leave_the_map(&self) -> bool
+        ensures { IsTrue result ↔ (self.now.map ≡ false) }
+    {
+        !self.map
     }
 
     /// What they set, with the default for each that was not read.
@@ -180,6 +216,7 @@ impl Options {
                 hash: self.hash.unwrap_or(HashKind::Sha256),
                 related: self.related.unwrap_or(Related::Each),
             },
+            map: self.map,
         }
     }
 }
@@ -191,15 +228,20 @@ fn first_name(words: &[String]) -> Option<OptionName>
     name_of(words.first()?.as_str())
 }
 
-// The second of the words, and those behind it.
-fn value_and_rest(words: &[String]) -> Option<(&str, &[String])>
-    ensures some { IfSome result (λ r. HasValue (map string_bytes words.now) r.0.now (map string_bytes r.1.now)) }
-    ensures none { IfNone result ((value : Text) (rest : List Text) → ¬ (HasValue (map string_bytes words.now) value rest)) }
+// These and the option of this name that the words begin with, and the words behind it. `None` where it was read
+// before, or is spelled wrong.
+fn read_option(options: Options, name: OptionName, words: &[String]) -> Option<(Options, &[String])>
+    requires { BeginsWithName (map string_bytes words.now) name }
+    ensures some { IfSome result (λ r. Reads options (map string_bytes words.now) r.0 (map string_bytes r.1.now)) }
+    ensures none { IfNone result ((given : Given) (rest : List Text) → ¬ (MayRead options given (map string_bytes words.now) rest)) }
     ensures fewer { IfSome result (λ r. length r.1.now < length words.now) }
 {
-    let (_, more) = words.split_first()?;
-    let (value, rest) = more.split_first()?;
-    Some((value.as_str(), rest))
+    let (_, behind) = words.split_first()?;
+    if let OptionName::Map = name {
+        return Some((options.with_map()?, behind));
+    }
+    let (value, rest) = behind.split_first()?;
+    Some((options.with(name, value.as_str())?, rest))
 }
 
 /// The options that the words begin with, and the words behind them. `None` where an option is spelled wrong, or is
@@ -211,8 +253,8 @@ pub(crate) fn read_options(words: &[String]) -> Option<(Options, &[String])>
     let mut options = Options::none();
     let mut rest = words;
     while let Some(name) = first_name(rest) {
-        let (value, behind) = value_and_rest(rest)?;
-        options = options.with(name, value)?;
+        let (more, behind) = read_option(options, name, rest)?;
+        options = more;
         rest = behind;
     }
     Some((options, rest))

@@ -19,7 +19,8 @@ pub(crate) fn push_number(out: &mut Vec<u8>, number: u64) -> Result<(), NoMemory
     Ok(())
 }
 
-fn push_label(out: &mut Vec<u8>, label: &Label) -> Result<(), NoMemory>
+/// Appends what a document calls a node.
+pub(crate) fn push_label(out: &mut Vec<u8>, label: &Label) -> Result<(), NoMemory>
     ensures { OnOk result (out.new.items ≡ out.old.items ++ label_text label.now) }
 {
     match label {
@@ -64,7 +65,8 @@ pub(crate) fn map_of_names(
     Ok(Bytes::new(out))
 }
 
-fn push_count(out: &mut Vec<u8>, word: &str, number: u64) -> Result<(), NoMemory>
+/// Appends a line with a word and a number.
+pub(crate) fn push_count(out: &mut Vec<u8>, word: &str, number: u64) -> Result<(), NoMemory>
     ensures { OnOk result (out.new.items ≡ out.old.items ++ number_line word.now number) }
 {
     out.extend_from_slice(word.as_bytes())?;
@@ -125,7 +127,8 @@ fn push_unsettled(
     }
 }
 
-fn push_counts(out: &mut Vec<u8>, canon: &Canon) -> Result<(), NoMemory>
+/// Appends what the run counted.
+pub(crate) fn push_counts(out: &mut Vec<u8>, canon: &Canon) -> Result<(), NoMemory>
     ensures { OnOk result (out.new.items ≡ out.old.items ++ count_lines canon.now.units canon.now.ties canon.now.joined) }
 {
     push_count(out, "units", canon.units)?;

@@ -3,11 +3,14 @@ ghost use Rattle.std.specs.Prelude.{◌≡◌};
 ghost use Rattle.rdfc_cli.specs.Statuses.{code_of};
 
 use ndegree_hash::Tie;
+use rdf_terms::QuadList;
 
-/// How a run ended. `file` is 0 for the first file of the command.
+/// How a run ended. `file` is 0 for the first file of the command, and 1 for the second.
 #[derive(Debug, Drop)]
 pub enum Status {
     Done,
+    /// The two datasets are not isomorphic (RDF 1.1 Concepts, section 4.1).
+    Different,
     Usage,
     /// The whole text was written, and this is the first tie that no symmetry joins: the standard may allow another
     /// text (RDF Dataset Canonicalization, section 4.4).
@@ -18,9 +21,14 @@ pub enum Status {
     /// The canonicalization takes more units than `limit`.
     WorkLimit { file: u8, limit: u64 },
     NoMemory,
+    /// The canonical forms of the two datasets differ, and so may other forms that the standard allows: these are the
+    /// first ties of the two runs that no symmetry joins.
+    Undecided(Tie, Tie),
+    /// An image of the graph, by numbers of its terms, has a component with more partial maps than `limit`.
+    SearchLimit { limit: u64, image: QuadList },
 }
 
-/// A file that was read and is refused. `file` is 0 for the first file of the command.
+/// A file that was read and is refused. `file` is 0 for the first file of the command, and 1 for the second.
 #[derive(Clone, Copy, Debug, PartialEq, Eq)]
 pub struct Refusal {
     pub file: u8,
@@ -35,6 +43,7 @@ pub enum Cause {
     BadLine { line: u64 },
     RelativeIri { line: u64 },
     TooManyQuads,
+    NotOneGraph,
 }
 
 impl Status {
@@ -44,6 +53,7 @@ impl Status {
     {
         match self {
             Status::Done => 0,
+            Status::Different => 1,
             Status::Usage => 2,
             Status::Unsettled(_) => 3,
             Status::Refused(_) => 4,
@@ -51,6 +61,8 @@ impl Status {
             Status::WriteFault => 6,
             Status::WorkLimit { .. } => 7,
             Status::NoMemory => 8,
+            Status::Undecided(_, _) => 9,
+            Status::SearchLimit { .. } => 7,
         }
     }
 }

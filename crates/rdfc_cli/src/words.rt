@@ -1,10 +1,14 @@
 //! The words of the command line.
-ghost use Rattle.std.specs.Prelude.{◌≡◌, ◌↔◌, map, string_bytes, IsTrue, IfSome, IfNone};
+ghost use Rattle.std.specs.Prelude.{◌≡◌, ◌↔◌, ℕ, map, string_bytes, codes, IsTrue, IfSome, IfNone};
+ghost use Rattle.rdf_terms.specs.Lists.{Text};
 ghost use Rattle.rdfc_cli.specs.Words.{Command as SpelledCommand, task_word, IsFileWord, IsNoCommand, file_word};
+ghost use Rattle.rdfc_cli.specs.Words.Command.{on_file, compare as compare_files, lean as lean_file, load as load_number};
+ghost use Rattle.rdfc_cli.specs.Options.{AreTaken};
 ghost use Rattle.rdfc_cli.specs.Requests.{command_of, IsRequest, IsSpelled};
 ghost use Rattle.rdfc_cli.specs.declared.words.Task.{Task};
 
-use crate::options::{Settings, read_options};
+use crate::options::{Options, Settings, number_within, read_options};
+use load_document::{GREATEST_NUMBER, LEAST_NUMBER};
 
 /// What is to be done with a file.
 #[derive(Clone, Copy, Debug, PartialEq, Eq)]
@@ -23,6 +27,12 @@ pub enum Task {
 #[derive(Clone, Copy, Debug, PartialEq, Eq)]
 pub enum Command<'a> {
     OnFile { task: Task, file: &'a str },
+    /// Write the map of the nodes of the first file to those of the second, where the two are isomorphic.
+    Compare { first: &'a str, second: &'a str },
+    /// Write a lean image of its graph, or the map onto it.
+    Lean { file: &'a str },
+    /// Write what is counted of the document that is made from a number, and the hash of its canonical form.
+    Load { number: u32 },
 }
 
 /// What the words of the command line ask for.
@@ -39,6 +49,21 @@ impl<'a> Command<'a> {
     {
         match self {
             Command::OnFile { file, .. } => file,
+            Command::Compare { first, second } => { if place == 0 { first } else { second } }
+            Command::Lean { file } => file,
+            Command::Load { .. } => "load",
+        }
+    }
+
+    // Whether it takes each option that was read.
+    fn takes(&self, options: &Options) -> bool
+        ensures { IsTrue result ↔ AreTaken (command_of self.now) options.now }
+    {
+        match self {
+            Command::OnFile { .. } => options.leave_the_map(),
+            Command::Compare { .. } => options.leave_the_profile() && options.leave_the_map(),
+            Command::Lean { .. } => options.leave_the_profile(),
+            Command::Load { .. } => options.leave_the_map(),
         }
     }
 }
@@ -65,10 +90,10 @@ fn is_file_word(word: &str) -> bool
     }
 }
 
-// The command that this word and the words behind the options spell.
-fn read_command<'a>(word: &str, operands: &'a [String]) -> Option<Command<'a>>
+// The task that this word names, with the one file that the operands name.
+fn read_task<'a>(word: &str, operands: &'a [String]) -> Option<Command<'a>>
     ensures some { IfSome result (λ command. IsSpelled word.now (map string_bytes operands.now) (command_of command)) }
-    ensures none { IfNone result ((command : SpelledCommand) → ¬ (IsSpelled word.now (map string_bytes operands.now) command)) }
+    ensures none { IfNone result ((task : Task) (file : Text) → ¬ (IsSpelled word.now (map string_bytes operands.now) (on_file task file))) }
 {
     let task = task_of(word)?;
     let [file] = operands else {
@@ -82,6 +107,66 @@ fn read_command<'a>(word: &str, operands: &'a [String]) -> Option<Command<'a>>
     }
 }
 
+// The comparison of the two files that the operands name.
+fn read_comparison(operands: &[String]) -> Option<Command<'_>>
+    ensures some { IfSome result (λ command. IsSpelled (codes "compare") (map string_bytes operands.now) (command_of command)) }
+    ensures none { IfNone result ((first second : Text) → ¬ (IsSpelled (codes "compare") (map string_bytes operands.now) (compare_files first second))) }
+{
+    let [first, second] = operands else {
+        return None;
+    };
+    let first = first.as_str();
+    let second = second.as_str();
+    if is_file_word(first) && is_file_word(second) {
+        Some(Command::Compare { first, second })
+    } else {
+        None
+    }
+}
+
+// The graph that is to be leaned, in the one file that the operands name.
+fn read_leaning(operands: &[String]) -> Option<Command<'_>>
+    ensures some { IfSome result (λ command. IsSpelled (codes "lean") (map string_bytes operands.now) (command_of command)) }
+    ensures none { IfNone result ((file : Text) → ¬ (IsSpelled (codes "lean") (map string_bytes operands.now) (lean_file file))) }
+{
+    let [file] = operands else {
+        return None;
+    };
+    let file = file.as_str();
+    if is_file_word(file) {
+        Some(Command::Lean { file })
+    } else {
+        None
+    }
+}
+
+// The document of the number that the operands spell.
+fn read_load(operands: &[String]) -> Option<Command<'_>>
+    ensures some { IfSome result (λ command. IsSpelled (codes "load") (map string_bytes operands.now) (command_of command)) }
+    ensures none { IfNone result ((n : ℕ) → ¬ (IsSpelled (codes "load") (map string_bytes operands.now) (load_number n))) }
+{
+    let [word] = operands else {
+        return None;
+    };
+    let number = number_within(word.as_str(), LEAST_NUMBER as u64, GREATEST_NUMBER as u64)?;
+    Some(Command::Load {
+        number: number as u32,
+    })
+}
+
+// The command that this word and the words behind the options spell.
+fn read_command<'a>(word: &str, operands: &'a [String]) -> Option<Command<'a>>
+    ensures some { IfSome result (λ command. IsSpelled word.now (map string_bytes operands.now) (command_of command)) }
+    ensures none { IfNone result ((command : SpelledCommand) → ¬ (IsSpelled word.now (map string_bytes operands.now) command)) }
+{
+    match word {
+        "compare" => read_comparison(operands),
+        "lean" => read_leaning(operands),
+        "load" => read_load(operands),
+        _ => read_task(word, operands),
+    }
+}
+
 /// What the words after the program's name spell. `None` where they spell no command.
 pub fn read_words(words: &[String]) -> Option<Request<'_>>
     ensures some { IfSome result (IsRequest (map string_bytes words.now)) }
@@ -90,8 +175,12 @@ pub fn read_words(words: &[String]) -> Option<Request<'_>>
     let (word, more) = words.split_first()?;
     let (options, operands) = read_options(more)?;
     let command = read_command(word.as_str(), operands)?;
-    Some(Request {
-        command,
-        settings: options.settings(),
-    })
+    if command.takes(&options) {
+        Some(Request {
+            command,
+            settings: options.settings(),
+        })
+    } else {
+        None
+    }
 }

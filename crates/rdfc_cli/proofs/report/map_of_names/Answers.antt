@@ -1,12 +1,12 @@
 use Rattle.std.proofs.Common.{[], ◌++◌, get_or, ap, sym, ◌∙◌, flat_map}
 use Rattle.std.proofs.lemmas.List.{take_all}
-use Rattle.canonical_writer.proofs.Placing.{In-get_or}
 use Rattle.rdfc_cli.specs.Reports.{map_line, map_text}
 use Rattle.rdfc_cli.proofs.ReportTexts.{one_more_text, map_line-at}
 use Rattle.rdfc_cli.proofs.report.map_of_names.Goals as goal
+use Rattle.rdf_terms.proofs.MadeLists.{In-get_or}
 
 pub label-requires : goal.label-requires
-label-requires c = c.requires.nodes _ (In-get_or c.args.order.now c.loop-place.place c.loop-place-test.true)
+label-requires c = c.requires.nodes _ (In-get_or c.args.order.now c.loop-place.place 0 c.loop-place-test.true)
 
 pub loop-place-preserved : goal.loop-place-preserved
 loop-place-preserved c =

@@ -1,11 +1,11 @@
 use Rattle.std.proofs.Common.{◌++◌, codes, get_or, ap, sym, ◌∙◌, append_assoc}
-use Rattle.canonical_writer.proofs.Placing.{In-get_or}
 use Rattle.rdfc_cli.specs.Reports.{spaced_label, label_text}
 use Rattle.rdfc_cli.proofs.ReportTexts.{one_more_text, label_in-at}
 use Rattle.rdfc_cli.proofs.report.push_labels.Goals as goal
+use Rattle.rdf_terms.proofs.MadeLists.{In-get_or}
 
 pub label-requires : goal.label-requires
-label-requires c = c.requires _ (In-get_or c.args.nodes.now c.loop-node.node-index c.loop-node-test.true)
+label-requires c = c.requires _ (In-get_or c.args.nodes.now c.loop-node.node-index 0 c.loop-node-test.true)
 
 pub loop-node-preserved : goal.loop-node-preserved
 loop-node-preserved c =

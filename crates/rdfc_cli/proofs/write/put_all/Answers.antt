@@ -1,8 +1,9 @@
 use Rattle.std.proofs.Common.{true≢false, sym, ◌∙◌, ◌++◌, take, arith}
 use Rattle.std.proofs.KnownBytes.{Appends-trans, Appends-kept}
 use Rattle.std.proofs.lemmas.Result.{err_from_is_err_and}
-use Rattle.rdfc_cli.proofs.Putting.{some_left, rest_all, cut}
+use Rattle.rdfc_cli.proofs.Putting.{some_left, cut}
 use Rattle.rdfc_cli.proofs.write.put_all.Goals as goal
+use Rattle.rdf_terms.proofs.MadeLists.{rest_all}
 
 pub loop-rest-preserved : goal.loop-rest-preserved
 loop-rest-preserved g c =

@@ -1,0 +1,8 @@
+use Rattle.rdfc_cli.specs.Answers.{seen}
+use Rattle.rdfc_cli.proofs.commands.output_of.Goals as goal
+
+pub returns-in-Load-clause-output : goal.returns-in-Load-clause-output
+returns-in-Load-clause-output g c = rw c.in-Load.is (c.output_of_number.ensures.output (seen g.S.Shelf.told g.S.Shelf.faults c.args.shelf.now c.args.shelf.now))
+
+pub returns-in-Load-clause-stops : goal.returns-in-Load-clause-stops
+returns-in-Load-clause-stops g c = rw c.in-Load.is (c.output_of_number.ensures.stops (seen g.S.Shelf.told g.S.Shelf.faults c.args.shelf.now c.args.shelf.now))

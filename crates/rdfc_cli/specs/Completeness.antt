@@ -1,0 +1,63 @@
+-- What follows where nothing failed: isomorphic datasets, of which one has no unjoined tie, get their bijection, and a graph gets its lean form.
+use Rattle.std.specs.Prelude.{◌≡◌, ℕ, ◌⊎◌, List, Option, Some}
+use Rattle.rdf_terms.specs.Lists.{Text}
+use Rattle.rdf_terms.specs.Terms.{Statement}
+use Rattle.rdf_terms.specs.Isomorphism.{AreIsomorphic}
+use Rattle.graph_model.specs.Counts.{IsPastSearch}
+use Rattle.graph_model.specs.Graphs.{IsGraph}
+use Rattle.outside.specs.Faults.{Rose}
+use Rattle.canon_model.specs.JoinedTies.{IsSettled}
+use Rattle.rdfc_cli.specs.Answers.{Content, Accepts, FileSeen, Answers, IsWithin, hashing_of}
+use Rattle.rdfc_cli.specs.Words.Command.{compare, lean}
+use Rattle.rdfc_cli.specs.declared.options.Settings.{Settings}
+use Rattle.rdfc_cli.specs.declared.status.Status.{Status}
+use Rattle.rdfc_cli.specs.declared.status.Status.TheVariants.{Done, NoMemory}
+
+-- a file that is accepted with this content and a counted run within the limit, with no failed call on it
+pub record IsFine (file : FileSeen) (settings : Settings) (content : Content) : Type 0 where
+  pub bytes : Text
+  pub told : file.told ≡ Some bytes
+  pub accepts : Accepts bytes content
+  pub within : IsWithin settings content.dataset
+  pub no_read_failed : ¬ (Rose file.faults file.faults_now)
+
+-- two such files, whose datasets are isomorphic (RDF 1.1 Concepts, section 4.1), and of one of them each tie is joined
+pub record AreFineAndAlike (first second : FileSeen) (settings : Settings) : Type 0 where
+  pub content : Content
+  pub other : Content
+  pub fine : IsFine first settings content
+  pub other_fine : IsFine second settings other
+  pub isomorphic : AreIsomorphic content.dataset other.dataset
+  pub settled : IsSettled (hashing_of settings) content.dataset ⊎ IsSettled (hashing_of settings) other.dataset
+
+-- the bijection was written whole, or memory was refused
+abbrev pub IsPaired : Status → Type 0
+IsPaired Done = Unit {0}
+IsPaired NoMemory = Unit {0}
+IsPaired status = ⊥
+
+abbrev pub FindsBijections : {K : Type 0} → (K → Option Text) → (K → ℕ) → Type 0
+FindsBijections {K} taken faults = (file : Text → FileSeen) (first second : Text) (settings : Settings) (old new : K) (status : Status) → AreFineAndAlike (file first) (file second) settings → ¬ (Rose (faults old) (faults new))
+    → Answers taken faults file (compare first second) settings old new status → IsPaired status
+
+-- ---- a graph that is leaned
+
+-- a file that is accepted as a graph, of which no image has a component with more partial maps than the limit, with no failed call on it
+pub record IsFineGraph (file : FileSeen) (settings : Settings) : Type 0 where
+  pub bytes : Text
+  pub told : file.told ≡ Some bytes
+  pub content : Content
+  pub accepts : Accepts bytes content
+  pub graph : IsGraph content.dataset.statements
+  pub within : (image : List Statement) → ¬ (IsPastSearch content.dataset.statements image settings.limit)
+  pub no_read_failed : ¬ (Rose file.faults file.faults_now)
+
+-- the text was written whole, or memory was refused
+abbrev pub IsLeaned : Status → Type 0
+IsLeaned Done = Unit {0}
+IsLeaned NoMemory = Unit {0}
+IsLeaned status = ⊥
+
+abbrev pub LeansGraphs : {K : Type 0} → (K → Option Text) → (K → ℕ) → Type 0
+LeansGraphs {K} taken faults = (file : Text → FileSeen) (word : Text) (settings : Settings) (old new : K) (status : Status) → IsFineGraph (file word) settings → ¬ (Rose (faults old) (faults new))
+    → Answers taken faults file (lean word) settings old new status → IsLeaned status
