@@ -1,4 +1,4 @@
-//! Worked examples: what the program and the public calls of its crates answer to small inputs.
+//! Worked examples of calls: what the public calls of the crates answer to small inputs.
 #![tactic(auto)]
 
 #[cfg(test)]
@@ -17,7 +17,5 @@ mod hashes;
 mod issuers;
 #[cfg(test)]
 mod references;
-#[cfg(test)]
-mod runs;
 #[cfg(test)]
 mod tokens;

@@ -1,0 +1,5 @@
+//! Worked examples of runs on one file: what the program answers, writes and notes.
+#![tactic(auto)]
+
+#[cfg(test)]
+mod runs;
