@@ -11,26 +11,20 @@ ghost use Rattle.canon_core.specs.Canonical.{IsCanon};
 use crate::canon::Canon;
 use crate::canonical_order::canonical_order;
 use canon_model::Profile;
-use canonical_writer::{ListNames, write_sorted_in};
+use canonical_writer::{ListNames, write_sorted};
 use dataset_index::Dataset;
 use ndegree_hash::{Budget, Stop, TieLog};
 use rdf_terms::{Bytes, NoMemory, NodeList, Prefix};
 use std::alloc::Global;
 
-// The canonical lines under identifiers by the places of this list, which holds every node. They are written in the
-// given memory.
-fn write_in_order(
-    alloc: Global,
-    memory: Vec<u8>,
-    dataset: &Dataset,
-    order: &[u32],
-) -> Result<Bytes, NoMemory>
+// The canonical lines under identifiers by the places of this list, which holds every node.
+fn write_in_order(alloc: Global, dataset: &Dataset, order: &[u32]) -> Result<Bytes, NoMemory>
     requires order { ListsNodes (length dataset.now.labels) order.now }
     requires valid { IsValid (dataset_of dataset.now) }
     ensures { IfOk result (λ text. text ≡ canonical_form (dataset_of dataset.now) order.now) }
 {
     let names = ListNames::new(alloc, order, Prefix::Canonical)?;
-    write_sorted_in(alloc, memory, dataset.terms(), dataset.quads(), &names)
+    write_sorted(alloc, dataset.terms(), dataset.quads(), &names)
 }
 
 /// The Canonicalization Algorithm (RDF Dataset Canonicalization, section 4.4): the canonical form of a dataset, and what
@@ -47,27 +41,11 @@ pub fn canonicalise(
     ensures within { OnOk result (IsWithinLimit (meaning profile) (dataset_of dataset.now) limit) }
     ensures over { result ≡ Err Stop.WorkLimit → PassesLimit (meaning profile) (dataset_of dataset.now) limit }
 {
-    canonicalise_in(alloc, Vec::new(alloc), dataset, limit, profile)
-}
-
-/// The same as `canonicalise`, with the form in the memory of a vector that is done with. What it holds is dropped.
-pub fn canonicalise_in(
-    alloc: Global,
-    memory: Vec<u8>,
-    dataset: &Dataset,
-    limit: u64,
-    profile: Profile,
-) -> Result<Canon, Stop>
-    ensures canon { IfOk result (IsCanon (meaning profile) (dataset_of dataset.now)) }
-    ensures profile { IfOk result (λ canon. canon.profile ≡ profile) }
-    ensures within { OnOk result (IsWithinLimit (meaning profile) (dataset_of dataset.now) limit) }
-    ensures over { result ≡ Err Stop.WorkLimit → PassesLimit (meaning profile) (dataset_of dataset.now) limit }
-{
     let _nodes = dataset.node_count();
     let mut budget = Budget::new(limit);
     let mut ties = TieLog::new();
     let order = canonical_order(alloc, dataset, &mut budget, &mut ties, profile)?;
-    let bytes = write_in_order(alloc, memory, dataset, &order)?;
+    let bytes = write_in_order(alloc, dataset, &order)?;
     Ok(Canon {
         bytes,
         order: NodeList::new(order),

@@ -2,7 +2,7 @@
 #![tactic(auto)]
 
 pub use canon::Canon;
-pub use form::{canonicalise, canonicalise_in};
+pub use form::canonicalise;
 
 mod canon;
 mod canonical_order;

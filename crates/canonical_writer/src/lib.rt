@@ -5,7 +5,7 @@ pub use line::{push_line, push_term};
 pub use lines::Lines;
 pub use list_names::ListNames;
 pub use names::{DegreeNames, Names, NumberNames, push_numbered};
-pub use sorted::{write_sorted, write_sorted_in};
+pub use sorted::write_sorted;
 
 mod escape;
 mod key_fronts;

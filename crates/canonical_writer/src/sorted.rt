@@ -16,6 +16,10 @@ use crate::runs::{Run, cut_at_subjects, sorted_runs};
 use rdf_terms::{Bytes, NoMemory, Quad, TermTable};
 use std::alloc::Global;
 
+/// How many bytes of room are asked for each line before the lines are written. Most lines take less;
+/// where they take more, the buffer grows.
+const LINE_ROOM: usize = 64;
+
 /// The canonical lines of the quads in byte order, one after the other. A quad that is there twice
 /// has its line twice.
 pub fn write_sorted<N: Names>(
@@ -28,33 +32,20 @@ pub fn write_sorted<N: Names>(
     requires named { All (λ q. HasNames (N.name names.now) (statement terms.now q)) quads.now }
     ensures { IfOk result (λ text. text ≡ joined (sorted (map (canonical_line (naming_of (N.name names.now))) (map (statement terms.now) quads.now)))) }
 {
-    write_sorted_in(alloc, Vec::new(alloc), terms, quads, names)
-}
-
-/// The same as `write_sorted`, in the memory of a vector that is done with. What it holds is dropped.
-pub fn write_sorted_in<N: Names>(
-    alloc: Global,
-    memory: Vec<u8>,
-    terms: &TermTable,
-    quads: &[Quad],
-    names: &N,
-) -> Result<Bytes, NoMemory>
-    requires in_range { All (IsInRange terms.now) quads.now }
-    requires named { All (λ q. HasNames (N.name names.now) (statement terms.now q)) quads.now }
-    ensures { IfOk result (λ text. text ≡ joined (sorted (map (canonical_line (naming_of (N.name names.now))) (map (statement terms.now) quads.now)))) }
-{
     let mut keys = Lines::new(alloc);
     let stretches = cut_at_subjects(alloc, terms, quads, names, &mut keys)?;
     let runs = sorted_runs(alloc, &keys, stretches.as_slice())?;
     drop(stretches);
-    write_runs(alloc, memory, terms, runs.as_slice(), names)
+    let room = quads.len().saturating_mul(LINE_ROOM);
+    write_runs(alloc, room, terms, runs.as_slice(), names)
 }
 
-/// The lines of the runs in byte order, one after the other. A run and those behind it whose keys go
-/// on behind its own make a group: all lines of a group are before those of the next.
+/// The lines of the runs in byte order, one after the other, in one buffer with room for so many
+/// bytes from the start. A run and those behind it whose keys go on behind its own make a group: all
+/// lines of a group are before those of the next.
 fn write_runs<N: Names>(
     alloc: Global,
-    memory: Vec<u8>,
+    room: usize,
     terms: &TermTable,
     runs: &[Run<'_>],
     names: &N,
@@ -63,8 +54,7 @@ fn write_runs<N: Names>(
     requires sorted { KeysAscend (λ r. r.key.now) runs.now }
     ensures { IfOk result (λ text. text ≡ joined (sorted (flat_map (λ r. lines_of (naming_of (N.name names.now)) terms.now r.quads.now) runs.now))) }
 {
-    let mut text = memory;
-    text.clear();
+    let mut text = Vec::with_capacity(alloc, room)?;
     let mut group = Lines::new(alloc);
     let mut front = first_key(runs);
     for run in runs {

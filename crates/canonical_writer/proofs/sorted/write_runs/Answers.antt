@@ -11,7 +11,7 @@ use Rattle.canonical_writer.proofs.sorted.write_runs.Goals.{then-not-begins_with
 use Rattle.canonical_writer.proofs.sorted.write_runs.Goals as goal
 
 pub loop-run-init : goal.loop-run-init
-loop-run-init g c = nothing_written _ _ c.args.runs.now c.clear.new.self.items c.new-group.result c.first_key-front.result.now c.clear.ensures.items c.new-group.ensures c.first_key-front.ensures
+loop-run-init g c = nothing_written _ _ c.args.runs.now c.in_ok-text.text.items c.new-group.result c.first_key-front.result.now c.in_ok-text.ensures.items c.new-group.ensures c.first_key-front.ensures
 
 pub push_lines-requires : goal.push_lines-requires
 push_lines-requires g c = c.requires.runs c.loop-run.run-index _ c.loop-run-test.true
@@ -31,7 +31,7 @@ loop-run-preserved g c =
     elim c.if-not-begins_with.branch [
       | then-not-begins_with+in_ok-append_sorted w ↦
           run_added key texts runs keyed i _ c.loop-run-test.true now.text.items now.group now.front.now
-          (same_writes key texts runs i _ now.text.items _ now.group _ now.front.now (ap (λ v. v.items) w.text-is ∙ w.in_ok-append_sorted.ensures) (w.group-is ∙ w.clear-then-not-begins_with.ensures) (ap (λ b. b.now) w.front-is)
+          (same_writes key texts runs i _ now.text.items _ now.group _ now.front.now (ap (λ v. v.items) w.text-is ∙ w.in_ok-append_sorted.ensures) (w.group-is ∙ w.clear.ensures) (ap (λ b. b.now) w.front-is)
           (group_ended key texts runs keyed i _ c.loop-run-test.true c.loop-run.text.items c.loop-run.group c.loop-run.front.now kept c.requires.sorted (λ s. true≢false (sym (here.1 s) ∙ w.if-not-begins_with.true))))
           _ (subst (StartsWith (key (get_or runs i _))) (sym (ap (λ b. b.now) w.front-is)) (starts_itself _)) c.in_ok-push_lines.ensures
       | else-not-begins_with w ↦

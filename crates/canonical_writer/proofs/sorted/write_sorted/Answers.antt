@@ -7,7 +7,7 @@ use Rattle.canonical_writer.specs.Names.{naming_of}
 use Rattle.canonical_writer.specs.Runs.{lines_of, IsRun}
 use Rattle.canonical_writer.specs.declared.runs.Run.{Run}
 use Rattle.canonical_writer.proofs.Stretches.{All-pairs, sorted_lines}
-use Rattle.canonical_writer.proofs.sorted.write_sorted_in.Goals as goal
+use Rattle.canonical_writer.proofs.sorted.write_sorted.Goals as goal
 
 pub sorted_runs-requires : goal.sorted_runs-requires
 sorted_runs-requires g c =

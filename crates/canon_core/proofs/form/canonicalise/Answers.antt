@@ -3,7 +3,7 @@ use Rattle.rdf_terms.specs.Document.{dataset as dataset_of}
 use Rattle.canon_model.specs.Allowed.{canonical_form}
 use Rattle.canon_model.specs.Meaning.{meaning}
 use Rattle.canon_core.proofs.Answering.{canon-from_run, run-lists}
-use Rattle.canon_core.proofs.form.canonicalise_in.Goals as goal
+use Rattle.canon_core.proofs.form.canonicalise.Goals as goal
 
 pub write_in_order-requires-clause-order : goal.write_in_order-requires-clause-order
 write_in_order-requires-clause-order c =
