@@ -2,7 +2,7 @@
 ghost use Rattle.std.specs.Prelude.{◌≤◌, length};
 
 use nquads_reader::{LineReader, ReadFault, read_nquads};
-use rdf_terms::{Parsed, TermTable};
+use rdf_terms::{Label, Parsed, Quad, TermTable};
 use std::alloc::Global;
 use std::hash::RandomState;
 use std::process::Abort;
@@ -94,9 +94,17 @@ fn have_same_terms(terms: &TermTable, others: &TermTable) -> bool {
     terms.len() == others.len()
 }
 
+fn are_same_quads(quads: &[Quad], others: &[Quad]) -> bool {
+    quads == others
+}
+
+fn are_same_labels(labels: &[Label], others: &[Label]) -> bool {
+    labels == others
+}
+
 fn is_same_document(parsed: &Parsed, other: &Parsed) -> bool {
-    parsed.quads() == other.quads()
-        && parsed.labels() == other.labels()
+    are_same_quads(parsed.quads(), other.quads())
+        && are_same_labels(parsed.labels(), other.labels())
         && have_same_terms(parsed.terms(), other.terms())
 }
 

@@ -92,7 +92,7 @@ fn the_lean_graph_and_the_map_onto_it(rt: HostRuntime) -> Result<(), Fail> {
     let keys = RandomState::new(&rt)?;
     let graph: &[&str] = &["lean", "f"];
     let map: &[&str] = &["lean", "--map", "f"];
-    let cases: [(&[&str], &str, &str); 14] = [
+    let cases: [(&[&str], &str, &str); 15] = [
         (graph, "", ""),
         (map, "", ""),
         (graph, TAIL, "<e:a> <e:p> _:e0 .\n"),
@@ -118,6 +118,7 @@ fn the_lean_graph_and_the_map_onto_it(rt: HostRuntime) -> Result<(), Fail> {
             NAMES,
             "<e:a> <e:p> \"v\"@en .\n<e:a> <e:p> <e:b> .\n",
         ),
+        (map, NAMES, ""),
         // As many partial maps as there are injective ones: 1 + 5 + 20 + 60 + 120 + 120.
         (&["lean", "--limit", "326", "f"], FIVE, LEAN_FIVE),
     ];
@@ -132,7 +133,7 @@ fn what_is_not_leaned(rt: HostRuntime) -> Result<(), Fail> {
     let keys = RandomState::new(&rt)?;
     let named = "<e:a> <e:p> <e:b> <e:g> .\n";
     let wrong = "rdfc: the words are not a command\n";
-    let cases: [(&[&str], &str, u8, Option<u8>, &str); 11] = [
+    let cases: [(&[&str], &str, u8, Option<u8>, &str); 12] = [
         (
             &["lean", "f"],
             named,
@@ -160,6 +161,13 @@ fn what_is_not_leaned(rt: HostRuntime) -> Result<(), Fail> {
             7,
             None,
             "rdfc: f: search limit 1 passed\n",
+        ),
+        (
+            &["lean", "--limit", "325", "f"],
+            FIVE,
+            7,
+            None,
+            "rdfc: f: search limit 325 passed\n",
         ),
         (&["lean"], "", 2, None, wrong),
         (&["lean", "--map"], "", 2, None, wrong),
