@@ -122,66 +122,102 @@ fn the_units_and_ties_of_the_calls_of_all_nodes(rt: HostRuntime) -> Result<(), F
     Ok(())
 }
 
-// The issuer that the call of the first node returns within the limit, if it does, and the units that were spent.
+fn is_list(issuer: &Option<Issuer>, want: Option<&[u32]>) -> bool {
+    match issuer {
+        Some(issuer) => match want {
+            Some(nodes) => issuer.list() == nodes,
+            None => false,
+        },
+        None => want.is_none(),
+    }
+}
+
+// Whether the call of the first node returns an issuer with this list within the limit, or none, and the units that were
+// spent.
 fn first_call(
     alloc: Global,
-    keys: RandomState,
-    text: &str,
+    dataset: &Dataset,
     limit: u64,
-) -> Result<(Option<Issuer>, u64), Fail> {
-    let dataset = dataset_of(alloc, keys, text)?;
-    let first = FirstTable::build(alloc, &dataset, Profile::DEFAULT)?;
+    want: Option<&[u32]>,
+) -> Result<(bool, u64), Fail> {
+    let first = FirstTable::build(alloc, dataset, Profile::DEFAULT)?;
     let mut budget = Budget::new(limit);
     let mut ties = TieLog::new();
     if dataset.node_count() == 0 {
         return Err(Fail::from("the document has no blank node"));
     }
-    let issuer = call(alloc, &dataset, &first, 0, &mut budget, &mut ties)?;
-    Ok((issuer, budget.spent()))
+    let issuer = call(alloc, dataset, &first, 0, &mut budget, &mut ties)?;
+    Ok((is_list(&issuer, want), budget.spent()))
 }
 
-fn is_list(issuer: &Option<Issuer>, nodes: &[u32]) -> bool {
-    match issuer {
-        Some(issuer) => issuer.list() == nodes,
-        None => false,
-    }
+fn first_call_of_text(
+    alloc: Global,
+    keys: RandomState,
+    limit: u64,
+    want: Option<&[u32]>,
+) -> Result<(bool, u64), Fail> {
+    let dataset = dataset_of(alloc, keys, TWO_NODES)?;
+    first_call(alloc, &dataset, limit, want)
+}
+
+fn assert_call(rt: &impl Abort, found: (bool, u64), spent: u64) {
+    assert_eq!(rt; found, (true, spent));
 }
 
 #[test]
 fn a_call_ends_where_its_units_are_within_the_limit(rt: HostRuntime) -> Result<(), Fail> {
     let keys = RandomState::new(&rt)?;
-    let (issuer, spent) = first_call(rt.alloc(), keys, TWO_NODES, 6)?;
-    assert!(rt; is_list(&issuer, &[0, 1]));
-    assert_eq!(rt; spent, 6);
-    let (none, all) = first_call(rt.alloc(), keys, TWO_NODES, 5)?;
-    assert!(rt; none.is_none());
-    assert_eq!(rt; all, 5);
+    let enough = first_call_of_text(rt.alloc(), keys, 6, Some(&[0, 1]))?;
+    assert_call(&rt, enough, 6);
+    let too_few = first_call_of_text(rt.alloc(), keys, 5, None)?;
+    assert_call(&rt, too_few, 5);
     Ok(())
 }
 
-// Whether the exchange of the first two nodes has a witness with these pairs.
-fn turned_nodes(alloc: Global, keys: RandomState, text: &str) -> Result<Option<Bijection>, Fail> {
-    let dataset = dataset_of(alloc, keys, text)?;
+fn has_pairs(found: &Option<Bijection>, want: Option<&[(u32, u32)]>) -> bool {
+    match found {
+        Some(bijection) => match want {
+            Some(pairs) => bijection.pairs.as_slice() == pairs,
+            None => false,
+        },
+        None => want.is_none(),
+    }
+}
+
+// Whether the exchange of the first two nodes has a witness with these pairs, or none.
+fn is_exchange(
+    alloc: Global,
+    dataset: &Dataset,
+    want: Option<&[(u32, u32)]>,
+) -> Result<bool, Fail> {
     if dataset.node_count() < 2 {
         return Err(Fail::from("the document has fewer than two blank nodes"));
     }
     let canon = Issuer::new(alloc, Prefix::Canonical);
-    Ok(witness(alloc, &dataset, &canon, 0, &[0, 1], &[1, 0])?)
+    let found = witness(alloc, dataset, &canon, 0, &[0, 1], &[1, 0])?;
+    Ok(has_pairs(&found, want))
 }
 
-fn has_pairs(found: &Option<Bijection>, pairs: &[(u32, u32)]) -> bool {
-    match found {
-        Some(bijection) => bijection.pairs.as_slice() == pairs,
-        None => false,
-    }
+fn is_exchange_of_text(
+    alloc: Global,
+    keys: RandomState,
+    text: &str,
+    want: Option<&[(u32, u32)]>,
+) -> Result<bool, Fail> {
+    let dataset = dataset_of(alloc, keys, text)?;
+    is_exchange(alloc, &dataset, want)
+}
+
+fn assert_that(rt: &impl Abort, holds: bool) {
+    assert!(rt; holds);
 }
 
 #[test]
 fn an_exchange_has_a_witness_where_it_is_a_symmetry(rt: HostRuntime) -> Result<(), Fail> {
     let keys = RandomState::new(&rt)?;
-    let found = turned_nodes(rt.alloc(), keys, TWO_NODES)?;
-    assert!(rt; has_pairs(&found, &[(0, 1), (1, 0)]));
-    let none = turned_nodes(rt.alloc(), keys, "_:a <http://e/p> _:b .\n")?;
-    assert!(rt; none.is_none());
+    let turned = is_exchange_of_text(rt.alloc(), keys, TWO_NODES, Some(&[(0, 1), (1, 0)]))?;
+    assert_that(&rt, turned);
+    let none = is_exchange_of_text(rt.alloc(), keys, "_:a <http://e/p> _:b .\n", None)?;
+    assert_that(&rt, none);
     Ok(())
 }

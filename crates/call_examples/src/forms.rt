@@ -43,6 +43,15 @@ fn assert_run(rt: &impl Abort, canon: &Canon, want: Run<'_>) {
     assert_eq!(rt; canon.hash().as_bytes(), want.hash.as_bytes());
 }
 
+fn has_form(alloc: Global, keys: RandomState, text: &str, limit: u64) -> Result<bool, Fail> {
+    let form = form_of(alloc, keys, text, limit)?;
+    Ok(form.is_some())
+}
+
+fn assert_none(rt: &impl Abort, there: bool) {
+    assert!(rt; !there);
+}
+
 // The form comes where the limit is just enough, and not below.
 fn expect_form(
     rt: &impl Abort,
@@ -55,8 +64,8 @@ fn expect_form(
         Some(canon) => assert_run(rt, &canon, want),
         None => return Err(Fail::from("a run takes more units than it should")),
     }
-    let below = form_of(alloc, keys, text, want.units.saturating_sub(1))?;
-    assert!(rt; below.is_none());
+    let below = has_form(alloc, keys, text, want.units.saturating_sub(1))?;
+    assert_none(rt, below);
     Ok(())
 }
 
@@ -80,35 +89,53 @@ fn the_form_comes_where_its_units_are_within_the_limit(rt: HostRuntime) -> Resul
     expect_form(&rt, rt.alloc(), keys, TWO_CHAINS, chains)
 }
 
-// The verdict, or none where a run takes more units than the limit.
-fn verdict_of(
+#[derive(Clone, Copy)]
+enum Wanted<'a> {
+    Map(&'a [(u32, u32)]),
+    Different,
+    Limit,
+}
+
+fn is_wanted(verdict: &Verdict, want: Wanted<'_>) -> bool {
+    match verdict {
+        Verdict::Same(map) => match want {
+            Wanted::Map(pairs) => map.pairs.as_slice() == pairs,
+            _ => false,
+        },
+        Verdict::Different => match want {
+            Wanted::Different => true,
+            _ => false,
+        },
+        Verdict::Undecided(_, _) => false,
+    }
+}
+
+fn is_limit(want: Wanted<'_>) -> bool {
+    match want {
+        Wanted::Limit => true,
+        _ => false,
+    }
+}
+
+// Whether the comparison of two documents ends so.
+fn is_verdict(
     alloc: Global,
     keys: RandomState,
-    text: &str,
-    other: &str,
+    texts: [&str; 2],
     limit: u64,
-) -> Result<Option<Verdict>, Fail> {
-    let dataset = dataset_of(alloc, keys, text)?;
-    let other = dataset_of(alloc, keys, other)?;
+    want: Wanted<'_>,
+) -> Result<bool, Fail> {
+    let dataset = dataset_of(alloc, keys, texts[0])?;
+    let other = dataset_of(alloc, keys, texts[1])?;
     match compare(alloc, &dataset, &other, limit) {
-        Ok(verdict) => Ok(Some(verdict)),
-        Err(Stop::WorkLimit) => Ok(None),
+        Ok(verdict) => Ok(is_wanted(&verdict, want)),
+        Err(Stop::WorkLimit) => Ok(is_limit(want)),
         Err(Stop::NoMemory) => Err(Fail::from("memory was refused")),
     }
 }
 
-fn is_map(verdict: &Option<Verdict>, pairs: &[(u32, u32)]) -> bool {
-    match verdict {
-        Some(Verdict::Same(map)) => map.pairs.as_slice() == pairs,
-        _ => false,
-    }
-}
-
-fn is_different(verdict: &Option<Verdict>) -> bool {
-    match verdict {
-        Some(Verdict::Different) => true,
-        _ => false,
-    }
+fn assert_verdict(rt: &impl Abort, holds: bool, limit: u64) {
+    assert!(rt; holds, "with the limit {limit}");
 }
 
 #[test]
@@ -117,11 +144,14 @@ fn datasets_are_compared_by_their_forms(rt: HostRuntime) -> Result<(), Fail> {
     // The second node of the one is the first of the other.
     let named = "_:a <e:name> \"Ada\" .\n_:b <e:name> \"Bob\" .\n_:a <e:knows> _:b .\n";
     let turned = "_:y <e:name> \"Bob\" .\n_:x <e:knows> _:y .\n_:x <e:name> \"Ada\" .\n";
-    let same = verdict_of(rt.alloc(), keys, named, turned, 1)?;
-    assert!(rt; is_map(&same, &[(0, 1), (1, 0)]));
-    let apart = verdict_of(rt.alloc(), keys, named, TWO_NODES, 12)?;
-    assert!(rt; is_different(&apart));
-    let stopped = verdict_of(rt.alloc(), keys, named, TWO_NODES, 11)?;
-    assert!(rt; stopped.is_none());
+    let cases = [
+        ([named, turned], 1, Wanted::Map(&[(0, 1), (1, 0)])),
+        ([named, TWO_NODES], 12, Wanted::Different),
+        ([named, TWO_NODES], 11, Wanted::Limit),
+    ];
+    for (texts, limit, want) in cases {
+        let holds = is_verdict(rt.alloc(), keys, texts, limit, want)?;
+        assert_verdict(&rt, holds, limit);
+    }
     Ok(())
 }

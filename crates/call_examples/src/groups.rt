@@ -26,6 +26,18 @@ const ONCE: Profile = Profile {
     ..Profile::DEFAULT
 };
 
+fn is_group(group: &Group, hash: &str, nodes: &[u32]) -> bool {
+    group.hash.as_bytes() == hash.as_bytes() && group.nodes.as_slice() == nodes
+}
+
+// Whether these are two groups with these hashes, both of these nodes.
+fn are_two(groups: &[Group], hashes: [&str; 2], nodes: &[u32]) -> bool {
+    match groups {
+        [first, second] => is_group(first, hashes[0], nodes) && is_group(second, hashes[1], nodes),
+        _ => false,
+    }
+}
+
 // The groups of the first node, for an issuer that lists it alone.
 fn groups_of_first(alloc: Global, dataset: &Dataset, profile: Profile) -> Result<Vec<Group>, Fail>
     requires { 0 < length dataset.now.labels }
@@ -37,33 +49,25 @@ fn groups_of_first(alloc: Global, dataset: &Dataset, profile: Profile) -> Result
     Ok(groups(alloc, dataset, first.all(), &canon, &issuer, 0, profile)?)
 }
 
-fn groups_of_text(
+// Whether the first node has two groups with these hashes, both of these nodes.
+fn has_groups(
     alloc: Global,
     keys: RandomState,
     text: &str,
     profile: Profile,
-) -> Result<Vec<Group>, Fail> {
+    hashes: [&str; 2],
+    nodes: &[u32],
+) -> Result<bool, Fail> {
     let dataset = dataset_of(alloc, keys, text)?;
     if dataset.node_count() == 0 {
         return Err(Fail::from("the document has no blank node"));
     }
-    groups_of_first(alloc, &dataset, profile)
+    let found = groups_of_first(alloc, &dataset, profile)?;
+    Ok(are_two(&found, hashes, nodes))
 }
 
-fn is_group(group: &Group, hash: &str, nodes: &[u32]) -> bool {
-    group.hash.as_bytes() == hash.as_bytes() && group.nodes.as_slice() == nodes
-}
-
-// Whether these are two groups of these hashes, both with these nodes.
-fn are_two(groups: &[Group], hashes: [&str; 2], nodes: &[u32]) -> bool {
-    match groups {
-        [first, second] => is_group(first, hashes[0], nodes) && is_group(second, hashes[1], nodes),
-        _ => false,
-    }
-}
-
-fn expect_groups(rt: &impl Abort, found: &[Group], hashes: [&str; 2], nodes: &[u32]) {
-    assert!(rt; are_two(found, hashes, nodes));
+fn assert_groups(rt: &impl Abort, holds: bool, text: &str) {
+    assert!(rt; holds, "{text}");
 }
 
 #[test]
@@ -77,12 +81,15 @@ fn the_groups_of_the_first_of_two_nodes(rt: HostRuntime) -> Result<(), Fail> {
         "45bb8f06722bd132dc88e62978ec0a6e9625bc248f1c7782de87b6abcc15a6dd",
         "e00128bd5675cdefb66e9557470ecb78aa2fbb902c69da5b5d0b8d0708142708",
     ];
-    let found = groups_of_text(rt.alloc(), keys, TWO_NODES, Profile::DEFAULT)?;
-    expect_groups(&rt, &found, alone, &[1]);
-    let each = groups_of_text(rt.alloc(), keys, IN_TWO_GRAPHS, Profile::DEFAULT)?;
-    expect_groups(&rt, &each, twice, &[1, 1]);
-    let once = groups_of_text(rt.alloc(), keys, IN_TWO_GRAPHS, ONCE)?;
-    expect_groups(&rt, &once, twice, &[1]);
+    let cases: [(&str, Profile, [&str; 2], &[u32]); 3] = [
+        (TWO_NODES, Profile::DEFAULT, alone, &[1]),
+        (IN_TWO_GRAPHS, Profile::DEFAULT, twice, &[1, 1]),
+        (IN_TWO_GRAPHS, ONCE, twice, &[1]),
+    ];
+    for (text, profile, hashes, nodes) in cases {
+        let holds = has_groups(rt.alloc(), keys, text, profile, hashes, nodes)?;
+        assert_groups(&rt, holds, text);
+    }
     Ok(())
 }
 
@@ -117,16 +124,8 @@ fn is_related(
     }
 }
 
-fn expect_related(
-    rt: &impl Abort,
-    alloc: Global,
-    keys: RandomState,
-    node: u32,
-    position: Position,
-    hash: &str,
-) -> Result<(), Fail> {
-    assert!(rt; is_related(alloc, keys, node, position, hash)?, "{hash}");
-    Ok(())
+fn assert_related(rt: &impl Abort, holds: bool, hash: &str) {
+    assert!(rt; holds, "{hash}");
 }
 
 #[test]
@@ -155,7 +154,8 @@ fn a_related_node_goes_by_its_identifier_or_its_hash(rt: HostRuntime) -> Result<
         ),
     ];
     for (node, position, hash) in cases {
-        expect_related(&rt, rt.alloc(), keys, node, position, hash)?;
+        let holds = is_related(rt.alloc(), keys, node, position, hash)?;
+        assert_related(&rt, holds, hash);
     }
     Ok(())
 }

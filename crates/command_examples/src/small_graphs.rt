@@ -58,7 +58,8 @@ fn image_in(graph: u32, map: u32) -> Option<[bool; 8]> {
     let mut image = [false; 8];
     for (place, triple) in TRIPLES.iter().enumerate() {
         if has(graph, place) {
-            image[place_in(graph, map, *triple)?] = true;
+            let there = image.get_mut(place_in(graph, map, *triple)?)?;
+            *there = true;
         }
     }
     Some(image)
