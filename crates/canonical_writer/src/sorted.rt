@@ -50,8 +50,8 @@ pub fn write_sorted_in<N: Names>(
     write_runs(alloc, memory, terms, runs.as_slice(), names)
 }
 
-/// The lines of the runs in byte order, one after the other. A run and those behind it whose keys go
-/// on behind its own make a group: all lines of a group are before those of the next.
+// The lines of the runs in byte order, one after the other. A run and those behind it whose keys go
+// on behind its own make a group: all lines of a group are before those of the next.
 fn write_runs<N: Names>(
     alloc: Global,
     memory: Vec<u8>,
@@ -79,7 +79,7 @@ fn write_runs<N: Names>(
     Ok(Bytes::new(text))
 }
 
-/// The key of the first run.
+// The key of the first run.
 fn first_key<'a>(runs: &[Run<'a>]) -> &'a [u8]
     requires { KeysAscend (λ r. r.key.now) runs.now }
     ensures { All (λ r. is_at_most result.now r.key.now ≡ true) runs.now }
@@ -96,7 +96,7 @@ fn begins_with(text: &[u8], front: &[u8]) -> bool
     text.starts_with(front)
 }
 
-/// Adds the lines of a run, each of which begins with its key.
+// Adds the lines of a run, each of which begins with its key.
 fn push_lines<N: Names>(
     lines: &mut Lines,
     key: &[u8],
