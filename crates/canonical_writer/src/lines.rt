@@ -1,6 +1,6 @@
 //! Lines in one buffer.
 
-ghost use Rattle.std.specs.Prelude.{◌≡◌, ◌<◌, ◌≤◌, ◌-◌, ◌++◌, [], ◌∷◌, length, map, sum, take, IfOk, OnOk, OnErr};
+ghost use Rattle.std.specs.Prelude.{◌≡◌, ◌<◌, ◌≤◌, ◌-◌, ◌++◌, [], ◌∷◌, length, map, sum, take, IfOk, OnOk, OnErr, IsTrue, ◌↔◌};
 ghost use Rattle.rdf_terms.specs.CanonicalForm.{canonical_line};
 ghost use Rattle.rdf_terms.specs.Document.{statement, term_at, IsInRange};
 ghost use Rattle.rdf_terms.specs.Lists.{joined, sorted};
@@ -48,6 +48,12 @@ impl Lines {
         ensures { result ≡ length self.now }
     {
         self.lengths.len()
+    }
+
+    pub fn is_empty(&self) -> bool
+        ensures { IsTrue result ↔ (self.now ≡ []) }
+    {
+        self.len() == 0
     }
 
     /// The lines one after the other, in the order in which they came.
