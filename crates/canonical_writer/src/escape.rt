@@ -8,8 +8,8 @@ ghost use Rattle.canonical_writer.specs.Escapes.{is_escaped};
 
 use rdf_terms::NoMemory;
 
-/// Appends the text of a string with its escapes. What stands as it is between two escapes is
-/// copied at once.
+// Appends the text of a string with its escapes. What stands as it is between two escapes is
+// copied at once.
 pub(crate) fn push_escaped(out: &mut Vec<u8>, text: &[u8]) -> Result<(), NoMemory>
     ensures ok { OnOk result (out.new.items ≡ out.old.items ++ flat_map escaped text.now) }
     ensures front { StartsWith out.new.items out.old.items }
@@ -54,7 +54,7 @@ fn push_escape(out: &mut Vec<u8>, byte: u8) -> Result<(), NoMemory>
     Ok(())
 }
 
-/// The hexadecimal digit in upper case.
+// The hexadecimal digit in upper case.
 fn digit(value: u8) -> u8
     requires { value < 16 }
     ensures { result ≡ hex_digit value }

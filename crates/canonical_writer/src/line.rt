@@ -48,8 +48,8 @@ fn append_line<N: Names>(
     push_rest(out, terms, quad, names)
 }
 
-/// Appends the canonical line of a quad, whose start is at hand: it is copied and not written again.
-/// After an `Err` the bytes are as before.
+// Appends the canonical line of a quad, whose start is at hand: it is copied and not written again.
+// After an `Err` the bytes are as before.
 pub(crate) fn push_behind<N: Names>(
     out: &mut Vec<u8>,
     start: &[u8],
@@ -88,7 +88,7 @@ fn append_behind<N: Names>(
     push_rest(out, terms, quad, names)
 }
 
-/// Appends what stands behind the subject in the line of a quad.
+// Appends what stands behind the subject in the line of a quad.
 fn push_rest<N: Names>(
     out: &mut Vec<u8>,
     terms: &TermTable,
@@ -107,8 +107,8 @@ fn push_rest<N: Names>(
     Ok(())
 }
 
-/// Appends the start of the lines of a subject: the subject, and the space behind it. After an `Err`
-/// the bytes are as before.
+// Appends the start of the lines of a subject: the subject, and the space behind it. After an `Err`
+// the bytes are as before.
 pub(crate) fn push_start<N: Names>(
     out: &mut Vec<u8>,
     terms: &TermTable,
@@ -145,7 +145,7 @@ fn push_graph_name<N: Names>(
     }
 }
 
-/// Appends the term with this number, and a space.
+// Appends the term with this number, and a space.
 #[inline]
 fn push_place<N: Names>(
     out: &mut Vec<u8>,
@@ -202,7 +202,7 @@ fn push_literal(out: &mut Vec<u8>, literal: &Literal) -> Result<(), NoMemory>
     push_suffix(out, &literal.kind)
 }
 
-/// Appends what stands behind the string: its language tag, or its datatype if it is written.
+// Appends what stands behind the string: its language tag, or its datatype if it is written.
 fn push_suffix(out: &mut Vec<u8>, kind: &LiteralKind) -> Result<(), NoMemory>
     ensures ok { OnOk result (out.new.items ≡ out.old.items ++ canonical_suffix kind.now) }
     ensures front { StartsWith out.new.items out.old.items }

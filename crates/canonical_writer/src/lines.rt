@@ -1,6 +1,6 @@
 //! Lines in one buffer.
 
-ghost use Rattle.std.specs.Prelude.{◌≡◌, ◌<◌, ◌≤◌, ◌-◌, ◌++◌, [], ◌∷◌, length, map, sum, take, IfOk, OnOk, OnErr};
+ghost use Rattle.std.specs.Prelude.{◌≡◌, ◌<◌, ◌≤◌, ◌-◌, ◌++◌, [], ◌∷◌, length, map, sum, take, IfOk, OnOk, OnErr, IsTrue, ◌↔◌};
 ghost use Rattle.rdf_terms.specs.CanonicalForm.{canonical_line};
 ghost use Rattle.rdf_terms.specs.Document.{statement, term_at, IsInRange};
 ghost use Rattle.rdf_terms.specs.Lists.{joined, sorted};
@@ -50,6 +50,12 @@ impl Lines {
         self.lengths.len()
     }
 
+    pub fn is_empty(&self) -> bool
+        ensures { IsTrue result ↔ (self.now ≡ []) }
+    {
+        self.len() == 0
+    }
+
     /// The lines one after the other, in the order in which they came.
     pub fn text(&self) -> &[u8]
         ensures { result.now ≡ joined self.now }
@@ -57,7 +63,7 @@ impl Lines {
         self.text.as_slice()
     }
 
-    /// How long each line is, in bytes.
+    // How long each line is, in bytes.
     pub(crate) fn lengths(&self) -> &[usize]
         ensures { result.now ≡ map length self.now }
     {
@@ -89,7 +95,7 @@ impl Lines {
         note_length(&mut self.text, &mut self.lengths, before)
     }
 
-    /// The same as `push`, of a line whose start is at hand.
+    // The same as `push`, of a line whose start is at hand.
     pub(crate) fn push_behind<N: Names>(
         &mut self,
         start: &[u8],
@@ -107,7 +113,7 @@ impl Lines {
         note_length(&mut self.text, &mut self.lengths, before)
     }
 
-    /// Adds the start of a line alone: a subject, and the space behind it.
+    // Adds the start of a line alone: a subject, and the space behind it.
     pub(crate) fn push_start<N: Names>(
         &mut self,
         terms: &TermTable,
@@ -123,7 +129,7 @@ impl Lines {
         note_length(&mut self.text, &mut self.lengths, before)
     }
 
-    /// The lines in the order in which they came.
+    // The lines in the order in which they came.
     pub(crate) fn split(&self, alloc: Global) -> Result<Vec<&[u8]>, NoMemory>
         ensures { IfOk result (λ v. map (λ p. p.now) v.items ≡ self.now) }
     {
@@ -139,7 +145,7 @@ impl Lines {
         Ok(lines)
     }
 
-    /// Appends the lines in byte order.
+    // Appends the lines in byte order.
     #[tactic(auto, using(crate::proofs::Pieces::sorted_short))]
     pub(crate) fn append_sorted(&self, alloc: Global, out: &mut Vec<u8>) -> Result<(), NoMemory>
         ensures { OnOk result (out.new.items ≡ out.old.items ++ joined (sorted self.now)) }
@@ -153,8 +159,8 @@ impl Lines {
     }
 }
 
-/// Notes how long the text from this place on is. Where there is no memory for that, the text is cut
-/// off again.
+// Notes how long the text from this place on is. Where there is no memory for that, the text is cut
+// off again.
 #[inline]
 fn note_length(text: &mut Vec<u8>, lengths: &mut Vec<usize>, before: usize) -> Result<(), NoMemory>
     requires { before ≤ length text.old.items }
@@ -172,7 +178,7 @@ fn note_length(text: &mut Vec<u8>, lengths: &mut Vec<usize>, before: usize) -> R
     }
 }
 
-/// Cuts a text into pieces of these lengths, which lie one after the other from its start.
+// Cuts a text into pieces of these lengths, which lie one after the other from its start.
 fn cut<'a>(alloc: Global, text: &'a [u8], lengths: &[usize]) -> Result<Vec<&'a [u8]>, NoMemory>
     requires { sum lengths.now ≤ length text.now }
     ensures { IfOk result (λ v. map (λ p. p.now) v.items ≡ pieces text.now lengths.now) }
@@ -187,7 +193,7 @@ fn cut<'a>(alloc: Global, text: &'a [u8], lengths: &[usize]) -> Result<Vec<&'a [
     Ok(parts)
 }
 
-/// Appends the texts one after the other.
+// Appends the texts one after the other.
 fn append_all(out: &mut Vec<u8>, texts: &[&[u8]]) -> Result<(), NoMemory>
     ensures { OnOk result (out.new.items ≡ out.old.items ++ joined (map (λ t. t.now) texts.now)) }
 {

@@ -71,7 +71,7 @@ fn label_start(prefix: Prefix) -> &'static [u8]
     }
 }
 
-/// One more than the largest number of the list, and 0 where it is empty.
+// One more than the largest number of the list, and 0 where it is empty.
 fn past_largest(list: &[u32]) -> usize
     ensures { All (λ n. n < result) list.now }
 {

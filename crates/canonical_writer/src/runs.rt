@@ -14,25 +14,25 @@ use crate::run_order::sort_by_key;
 use rdf_terms::{NoMemory, Quad, TermTable};
 use std::alloc::Global;
 
-/// Quads of one subject, and the text that their lines begin with: the subject and a space. A front of
-/// this key stands beside it, so that two runs compare without a look at their keys, which lie far
-/// apart in memory. It is noted when the runs are put in order, and 0 before.
+// Quads of one subject, and the text that their lines begin with: the subject and a space. A front of
+// this key stands beside it, so that two runs compare without a look at their keys, which lie far
+// apart in memory. It is noted when the runs are put in order, and 0 before.
 #[derive(Clone, Copy, Debug)]
 pub(crate) struct Run<'a> {
-    pub front: u64,
-    pub key: &'a [u8],
-    pub quads: &'a [Quad],
+    pub(crate) front: u64,
+    pub(crate) key: &'a [u8],
+    pub(crate) quads: &'a [Quad],
 }
 
-/// How many quads at the front have this subject.
+// How many quads at the front have this subject.
 fn subject_len(quads: &[Quad], subject: u32) -> usize
     ensures { result ≡ prefix_len (λ q. q.s == subject) quads.now }
 {
     quads.iter().take_while(|quad| quad.s == subject).count()
 }
 
-/// Cuts the quads where one has another subject than the one before it, and writes the key of each
-/// stretch.
+// Cuts the quads where one has another subject than the one before it, and writes the key of each
+// stretch.
 pub(crate) fn cut_at_subjects<'a, N: Names>(
     alloc: Global,
     terms: &TermTable,
@@ -57,7 +57,7 @@ pub(crate) fn cut_at_subjects<'a, N: Names>(
     Ok(stretches)
 }
 
-/// Each stretch with its key. The keys lie in the text one after the other, and have these lengths.
+// Each stretch with its key. The keys lie in the text one after the other, and have these lengths.
 fn with_keys<'a>(
     alloc: Global,
     text: &'a [u8],
@@ -82,7 +82,7 @@ fn with_keys<'a>(
     Ok(runs)
 }
 
-/// The stretches with their keys, in the order of the keys.
+// The stretches with their keys, in the order of the keys.
 pub(crate) fn sorted_runs<'a>(
     alloc: Global,
     keys: &'a Lines,

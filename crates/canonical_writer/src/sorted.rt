@@ -16,8 +16,8 @@ use crate::runs::{Run, cut_at_subjects, sorted_runs};
 use rdf_terms::{Bytes, NoMemory, Quad, TermTable};
 use std::alloc::Global;
 
-/// How many bytes of room are asked for each line before the lines are written. Most lines take less;
-/// where they take more, the buffer grows.
+// How many bytes of room are asked for each line before the lines are written. Most lines take less;
+// where they take more, the buffer grows.
 const LINE_ROOM: usize = 64;
 
 /// The canonical lines of the quads in byte order, one after the other. A quad that is there twice
@@ -40,9 +40,9 @@ pub fn write_sorted<N: Names>(
     write_runs(alloc, room, terms, runs.as_slice(), names)
 }
 
-/// The lines of the runs in byte order, one after the other, in one buffer with room for so many
-/// bytes from the start. A run and those behind it whose keys go on behind its own make a group: all
-/// lines of a group are before those of the next.
+// The lines of the runs in byte order, one after the other, in one buffer with room for so many
+// bytes from the start. A run and those behind it whose keys go on behind its own make a group: all
+// lines of a group are before those of the next.
 fn write_runs<N: Names>(
     alloc: Global,
     room: usize,
@@ -69,7 +69,7 @@ fn write_runs<N: Names>(
     Ok(Bytes::new(text))
 }
 
-/// The key of the first run.
+// The key of the first run.
 fn first_key<'a>(runs: &[Run<'a>]) -> &'a [u8]
     requires { KeysAscend (λ r. r.key.now) runs.now }
     ensures { All (λ r. is_at_most result.now r.key.now ≡ true) runs.now }
@@ -86,7 +86,7 @@ fn begins_with(text: &[u8], front: &[u8]) -> bool
     text.starts_with(front)
 }
 
-/// Adds the lines of a run, each of which begins with its key.
+// Adds the lines of a run, each of which begins with its key.
 fn push_lines<N: Names>(
     lines: &mut Lines,
     key: &[u8],

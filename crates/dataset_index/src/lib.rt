@@ -4,6 +4,7 @@
 pub use dataset::Dataset;
 
 mod by_subject;
+mod counting_sort;
 mod dataset;
 mod mention;
 mod mentions;

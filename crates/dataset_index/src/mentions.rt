@@ -6,7 +6,7 @@ ghost use Rattle.dataset_index.specs.Mentions.{node_of_name, is_node_some, Notes
 
 use crate::mention::Mention;
 use crate::term_nodes::TermNodes;
-use rdf_terms::{NoMemory, Quad};
+use rdf_terms::{MOST_QUADS, NoMemory, Quad};
 use std::alloc::Global;
 
 fn node_of_graph_name(nodes: &TermNodes<'_>, graph_name: Option<u32>) -> Option<u32>
@@ -60,7 +60,7 @@ pub(crate) fn note_all(
     quads: &[Quad],
 ) -> Result<Vec<Mention>, NoMemory>
     requires in_range { All (IsInRange nodes.now) quads.now }
-    requires bound { length quads.now ≤ 1000000000 }
+    requires bound { length quads.now ≤ MOST_QUADS }
     ensures places { IfOk result (λ notes. NotesPlaces (map (statement nodes.now) quads.now) notes.items (length quads.now)) }
     ensures length { IfOk result (λ notes. length notes.items < 2 ^ 32) }
 {

@@ -12,7 +12,7 @@ use std::marker::Model;
 // What is held for a term that is no node.
 const NO_NODE: u32 = u32::MAX;
 
-/// Terms by number, of which it is at hand which node each is.
+// Terms by number, of which it is at hand which node each is.
 #[derive(Drop)]
 pub(crate) struct TermNodes<'a> {
     terms: &'a TermTable,
@@ -68,7 +68,7 @@ fn numbers_held(alloc: Global, terms: &TermTable) -> Result<Vec<u32>, NoMemory>
 }
 
 impl<'a> TermNodes<'a> {
-    pub fn of(alloc: Global, terms: &'a TermTable) -> Result<Self, NoMemory>
+    pub(crate) fn of(alloc: Global, terms: &'a TermTable) -> Result<Self, NoMemory>
         requires { AreNodesBelow terms.now }
         ensures { IfOk result (λ nodes. nodes ≡ terms.now) }
     {
@@ -76,16 +76,16 @@ impl<'a> TermNodes<'a> {
         Ok(TermNodes { terms, held })
     }
 
-    /// The node that the term with this number is.
-    pub fn node_of(&self, number: u32) -> Option<u32>
+    // The node that the term with this number is.
+    pub(crate) fn node_of(&self, number: u32) -> Option<u32>
         requires { number < length self.now }
         ensures { result ≡ node_in (term_at self.now number) }
     {
         node_of_number(self.held[number as usize])
     }
 
-    /// How many terms there are.
-    pub fn len(&self) -> u32
+    // How many terms there are.
+    pub(crate) fn len(&self) -> u32
         ensures { result ≡ length self.now }
     {
         self.terms.len()

@@ -5,7 +5,7 @@ use Rattle.std.proofs.lemmas.Bool.{eqb-true}
 use Rattle.std.proofs.lemmas.List.{get_or-take, length-map, length-take-le, reverse-append, reverse-reverse, take-append-drop}
 use Rattle.std.proofs.Math.Seq.{take-suc, take-length}
 use Rattle.rdf_terms.specs.Lists.{In, AreDistinct}
-use Rattle.rdf_terms.specs.SameTerm.{both}
+use Rattle.std.proofs.lemmas.Bool.{and_parts}
 use Rattle.rdf_terms.specs.declared.term.Quad.{Quad}
 use Rattle.map_search.specs.declared.rows.End.{End}
 use Rattle.map_search.specs.declared.rows.End.TheVariants.{Fixed, Place}
@@ -90,8 +90,8 @@ map_of-same (x ∷ xs) (t ∷ ts) d e = first (map_of-same xs ts d.1 (omega arit
 
 each_from_all : {X : Type 0} (p : X → Bool) (xs : List X) (x : X) → In x xs → list_all p xs ≡ true → p x ≡ true
 each_from_all p [] x i h = absurd i
-each_from_all p (y ∷ ys) x (inl e) h = ap p e ∙ (both (p y) (list_all p ys) h).0
-each_from_all p (y ∷ ys) x (inr i) h = each_from_all p ys x i (both (p y) (list_all p ys) h).1
+each_from_all p (y ∷ ys) x (inl e) h = ap p e ∙ (and_parts (p y) (list_all p ys) h).0
+each_from_all p (y ∷ ys) x (inr i) h = each_from_all p ys x i (and_parts (p y) (list_all p ys) h).1
 
 module _ (G H : List Quad) (nodes : List ℕ) (rows : List (List Condition)) (bound : ℕ) (meets : List ℕ → Condition → ℕ → Bool) (search : IsSearch G H nodes rows bound meets) (images : List ℕ) (is_map : IsMap bound (fits_rows meets rows) images) (front : length images ≤ length nodes) where
   other_end : (k : ℕ) → k < length images → (e : End) (x : ℕ) → IsOtherEnd nodes k e x → end_at (take k images) e ≡ map_of nodes images x

@@ -6,7 +6,7 @@ use Rattle.std.proofs.lemmas.Bool.{eqb-true}
 use Rattle.std.proofs.lemmas.List.{length-set, get_or-set_same, get_or-set_other}
 use Rattle.std.proofs.lemmas.Option.{slice_get-get_or, slice_get_within, get_or_from_slice_get}
 use Rattle.rdf_terms.specs.Lists.{In, AreDistinct, Permutes}
-use Rattle.rdf_terms.specs.SameTerm.{both}
+use Rattle.std.proofs.lemmas.Bool.{and_parts}
 use Rattle.rdf_terms.proofs.Membership.{In-at, place_in}
 use Rattle.rdf_terms.proofs.Permutations.{In-Permutes, Permutes-sym}
 use Rattle.rdf_terms.specs.declared.term.Quad.{Quad}
@@ -130,10 +130,10 @@ module _ (asked : Asked) (quads : List Quad) (live : List Bool) where
         by r = at_entry (In-kept r.0 quads live r.1)
           where
             p : (first_of asked r.0 == first) ≡ true
-            p = (both (first_of asked r.0 == first) ((second_of asked r.0 == second) && (value_of asked r.0 == v)) r.2).0
+            p = (and_parts (first_of asked r.0 == first) ((second_of asked r.0 == second) && (value_of asked r.0 == v)) r.2).0
 
             s : ((second_of asked r.0 == second) ≡ true) × ((value_of asked r.0 == v) ≡ true)
-            s = both (second_of asked r.0 == second) (value_of asked r.0 == v) (both (first_of asked r.0 == first) ((second_of asked r.0 == second) && (value_of asked r.0 == v)) r.2).1
+            s = and_parts (second_of asked r.0 == second) (value_of asked r.0 == v) (and_parts (first_of asked r.0 == first) ((second_of asked r.0 == second) && (value_of asked r.0 == v)) r.2).1
 
             at_entry : ((k : ℕ) × (k < length quads) × (quad_at quads k ≡ r.0) × (mark_at live k ≡ true)) → HasEntry t first second v
             at_entry k =
@@ -182,8 +182,8 @@ module _ (H : List Quad) (images : List ℕ) where
   found_by : (asked : Asked) (first second t : ℕ) → list_any (gives asked first second t) H ≡ true → (q : Quad) × In q H × (first_of asked q ≡ first) × (second_of asked q ≡ second) × (value_of asked q ≡ t)
   found_by asked first second t e =
       let r = some_passes (gives asked first second t) H e in
-      let p = both (first_of asked r.0 == first) ((second_of asked r.0 == second) && (value_of asked r.0 == t)) r.2 in
-      let s = both (second_of asked r.0 == second) (value_of asked r.0 == t) p.1 in
+      let p = and_parts (first_of asked r.0 == first) ((second_of asked r.0 == second) && (value_of asked r.0 == t)) r.2 in
+      let s = and_parts (second_of asked r.0 == second) (value_of asked r.0 == t) p.1 in
       (r.0, r.1, eqb-true (first_of asked r.0) first p.0, eqb-true (second_of asked r.0) second s.0, eqb-true (value_of asked r.0) t s.1)
 
   finds : (asked : Asked) (first second t : ℕ) (q : Quad) → In q H → first_of asked q ≡ first → second_of asked q ≡ second → value_of asked q ≡ t → list_any (gives asked first second t) H ≡ true

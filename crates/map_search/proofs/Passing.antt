@@ -2,7 +2,7 @@
 use Rattle.std.proofs.Common.{◌≡◌, ℕ, zero, suc, ◌+◌, ◌<◌, ◌≤◌, ◌⊎◌, Bool, true, false, ◌&&◌, List, [], ◌∷◌, length, take, get_or, refl, sym, ap, ◌∙◌, subst, inl, inr, arith, true≢false}
 use Rattle.std.specs.List.{list_all}
 use Rattle.std.proofs.lemmas.List.Folds.{list_all_more, list_all_at}
-use Rattle.rdf_terms.specs.SameTerm.{both}
+use Rattle.std.proofs.lemmas.Bool.{and_parts}
 use Rattle.map_search.specs.Maps.{IsNext, NoneFits}
 use Rattle.map_search.specs.Rows.{meets_all}
 use Rattle.map_search.specs.declared.rows.Condition.{Condition}
@@ -16,7 +16,7 @@ and_true a b e f = rw (e, f) refl
 all_take : {X : Type 0} (p : X → Bool) (xs : List X) (i : ℕ) → list_all p xs ≡ true → list_all p (take i xs) ≡ true
 all_take p xs zero h = refl
 all_take p [] (suc i) h = refl
-all_take p (x ∷ xs) (suc i) h = let b = both (p x) (list_all p xs) h in and_true (p x) (list_all p (take i xs)) b.0 (all_take p xs i b.1)
+all_take p (x ∷ xs) (suc i) h = let b = and_parts (p x) (list_all p xs) h in and_true (p x) (list_all p (take i xs)) b.0 (all_take p xs i b.1)
 
 all_at : {X : Type 0} (p : X → Bool) (xs : List X) (i : ℕ) (d : X) → i < length xs → list_all p xs ≡ true → p (get_or xs i d) ≡ true
 all_at p xs i d l h = by (p (get_or xs i d)) refl
@@ -34,7 +34,7 @@ module _ (bound : ℕ) (meets : Condition → ℕ → Bool) (row : List Conditio
     least_on s a b h = by (three s next)
       where
         parts : (list_all (λ c. meets c s) (take i row) ≡ true) × (meets (get_or row i d) s ≡ true)
-        parts = both (list_all (λ c. meets c s) (take i row)) (meets (get_or row i d) s) (sym (list_all_more (λ c. meets c s) row i d within) ∙ h)
+        parts = and_parts (list_all (λ c. meets c s) (take i row)) (meets (get_or row i d) s) (sym (list_all_more (λ c. meets c s) row i d within) ∙ h)
 
         by : (s < next) ⊎ ((s ≡ next) ⊎ (next < s)) → next ≤ s
         by (inl l) = absurd (n.least s (least s a b parts.0) l parts.1)

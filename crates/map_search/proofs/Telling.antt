@@ -4,7 +4,7 @@ use Rattle.std.specs.List.{list_all, list_any}
 use Rattle.std.proofs.lemmas.Bool.{eqb-true}
 use Rattle.std.proofs.lemmas.List.{length-map}
 use Rattle.rdf_terms.specs.Lists.{In, AreDistinct}
-use Rattle.rdf_terms.specs.SameTerm.{both}
+use Rattle.std.proofs.lemmas.Bool.{and_parts}
 use Rattle.rdf_terms.proofs.Membership.{In-map, from_In-map}
 use Rattle.rdf_terms.specs.declared.term.Quad.{Quad}
 use Rattle.map_search.specs.Pattern.{carried, IsNodeMap, TouchesOneOf, IsReachedBy, Misses, ReachesAll, TellsMisses, misses_node}
@@ -121,8 +121,8 @@ all_images images (y ∷ ys) h = and_true (list_any (λ i. i == y) images) _ (is
 
 each_image : (images nodes : List ℕ) → list_all (λ x. list_any (λ i. i == x) images) nodes ≡ true → (x : ℕ) → In x nodes → In x images
 each_image images [] h x i = absurd i
-each_image images (y ∷ ys) h x (inl e) = subst (λ z. In z images) (sym e) (is_in-true y images (both (list_any (λ i. i == y) images) (list_all (λ x. list_any (λ i. i == x) images) ys) h).0)
-each_image images (y ∷ ys) h x (inr i) = each_image images ys (both (list_any (λ i. i == y) images) (list_all (λ x. list_any (λ i. i == x) images) ys) h).1 x i
+each_image images (y ∷ ys) h x (inl e) = subst (λ z. In z images) (sym e) (is_in-true y images (and_parts (list_any (λ i. i == y) images) (list_all (λ x. list_any (λ i. i == x) images) ys) h).0)
+each_image images (y ∷ ys) h x (inr i) = each_image images ys (and_parts (list_any (λ i. i == y) images) (list_all (λ x. list_any (λ i. i == x) images) ys) h).1 x i
 
 module _ (H : List Quad) (nodes : List ℕ) (m : ℕ → ℕ) (is_map : IsNodeMap H H nodes m) where
   -- a node that is an image of something is the image of a node

@@ -13,10 +13,10 @@ const QUADS_AT_ONCE: usize = 64;
 
 // How many lines were read, what stands behind them, and the fault of the line there, if it has one.
 #[derive(Drop)]
-pub struct Block<'a> {
-    pub lines: u64,
-    pub rest: &'a [u8],
-    pub fault: Option<LineFault>,
+pub(crate) struct Block<'a> {
+    pub(crate) lines: u64,
+    pub(crate) rest: &'a [u8],
+    pub(crate) fault: Option<LineFault>,
 }
 
 // Puts the quad that the line states, if any, behind the others.
@@ -38,7 +38,7 @@ fn push_line<'a>(
 
 // Reads lines until they state so many quads, to a line with a fault, or to the end. The quads stand
 // in place of what was there.
-pub fn read_block<'a>(alloc: Global, bytes: &'a [u8], quads: &mut Vec<StatedQuad<'a>>) -> Block<'a>
+pub(crate) fn read_block<'a>(alloc: Global, bytes: &'a [u8], quads: &mut Vec<StatedQuad<'a>>) -> Block<'a>
     requires some { 0 < length bytes.now }
     requires few { length bytes.now ≤ 4294967295 }
     ensures block { IsBlock bytes.now quads.new.items result.lines result.rest.now }

@@ -7,7 +7,7 @@ ghost use Rattle.nquads_reader.specs.Feeding.{behind_line_end};
 use memchr::memrchr2;
 
 // The bytes up to the last line end, and those behind it.
-pub fn split_at_last_end(bytes: &[u8]) -> (&[u8], &[u8])
+pub(crate) fn split_at_last_end(bytes: &[u8]) -> (&[u8], &[u8])
     ensures { IsCut bytes.now result.0.now result.1.now }
 {
     match memrchr2(b'\n', b'\r', bytes) {
@@ -17,7 +17,7 @@ pub fn split_at_last_end(bytes: &[u8]) -> (&[u8], &[u8])
 }
 
 // What follows an LF at the front, where it belongs to a CR before it.
-pub fn behind_line_end(after_cr: bool, piece: &[u8]) -> &[u8]
+pub(crate) fn behind_line_end(after_cr: bool, piece: &[u8]) -> &[u8]
     ensures { result.now ≡ behind_line_end after_cr piece.now }
 {
     if after_cr && !piece.is_empty() && piece[0] == b'\n' {
@@ -28,7 +28,7 @@ pub fn behind_line_end(after_cr: bool, piece: &[u8]) -> &[u8]
 }
 
 // Whether the last byte is a CR, where the piece comes behind bytes of which the same is known.
-pub fn ends_in_cr(after_cr: bool, piece: &[u8]) -> bool
+pub(crate) fn ends_in_cr(after_cr: bool, piece: &[u8]) -> bool
     ensures { (before : Text) → after_cr ≡ ends_with_cr before → result ≡ ends_with_cr (before ++ piece.now) }
 {
     match piece.last() {

@@ -17,7 +17,7 @@ use terminals::after;
 
 // Why a line was not taken.
 #[derive(Clone, Copy, Debug, PartialEq, Eq)]
-pub enum LineFault {
+pub(crate) enum LineFault {
     NotUtf8,
     BadLine,
     RelativeIri,
@@ -153,7 +153,7 @@ fn is_absolute(quad: &StatedQuad<'_>) -> bool
 }
 
 // What the line states: no quad, or one.
-pub fn read_line(alloc: Global, line: &[u8]) -> Result<Option<StatedQuad<'_>>, LineFault>
+pub(crate) fn read_line(alloc: Global, line: &[u8]) -> Result<Option<StatedQuad<'_>>, LineFault>
     ensures ok { IfOk result (IsFaultless line.now) }
     ensures err { IfErr result (IsFaultOf line.now) }
 {

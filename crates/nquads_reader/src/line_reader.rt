@@ -86,7 +86,7 @@ impl LineReader {
         LineReader::of_draft(alloc, Draft::new(alloc, keys))
     }
 
-    /// The same with room for so many quads and terms. More may come.
+    // The same with room for so many quads and terms. More may come.
     pub(crate) fn with_capacity(
         alloc: Global,
         keys: RandomState,

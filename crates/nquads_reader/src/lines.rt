@@ -22,7 +22,7 @@ fn first_end(bytes: &[u8]) -> Option<usize>
 }
 
 // The first line, without its end, and what follows its end.
-pub fn next_line(bytes: &[u8]) -> (&[u8], &[u8])
+pub(crate) fn next_line(bytes: &[u8]) -> (&[u8], &[u8])
     requires { 0 < length bytes.now }
     ensures lines { lines_of bytes.now ≡ result.0.now ∷ lines_of result.1.now }
     ensures within { length result.0.now + length result.1.now ≤ length bytes.now }

@@ -99,7 +99,7 @@ fn statement_refs<'a>(
 }
 
 // Adds the quads in their order, with a number for each label that is new.
-pub fn take_quads(
+pub(crate) fn take_quads(
     alloc: Global,
     draft: &mut Draft,
     quads: &[StatedQuad<'_>],

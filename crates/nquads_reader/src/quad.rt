@@ -4,22 +4,22 @@ use crate::stated_text::StatedText;
 
 // What a line states: an IRI, or a blank node by its label.
 #[derive(Drop)]
-pub enum Resource<'a> {
+pub(crate) enum Resource<'a> {
     Iri(StatedText<'a>),
     Label(StatedText<'a>),
 }
 
 #[derive(Drop)]
-pub enum Object<'a> {
+pub(crate) enum Object<'a> {
     Resource(Resource<'a>),
     Literal(StatedLiteral<'a>),
 }
 
 // A quad as its line states it.
 #[derive(Drop)]
-pub struct StatedQuad<'a> {
-    pub subject: Resource<'a>,
-    pub predicate: StatedText<'a>,
-    pub object: Object<'a>,
-    pub graph_name: Option<Resource<'a>>,
+pub(crate) struct StatedQuad<'a> {
+    pub(crate) subject: Resource<'a>,
+    pub(crate) predicate: StatedText<'a>,
+    pub(crate) object: Object<'a>,
+    pub(crate) graph_name: Option<Resource<'a>>,
 }

@@ -14,7 +14,7 @@ use rdf_terms::Draft;
 use std::alloc::Global;
 
 // Adds what the lines state, in their order, and counts them, up to the first one with a fault.
-pub fn read_lines(
+pub(crate) fn read_lines(
     alloc: Global,
     draft: &mut Draft,
     lines: &mut u64,
@@ -65,7 +65,7 @@ fn read_begun(
 
 // Adds what the lines state that these bytes end. They end in a line end, if there are any, and go
 // on with the line that was begun.
-pub fn read_ended(
+pub(crate) fn read_ended(
     alloc: Global,
     draft: &mut Draft,
     lines: &mut u64,

@@ -11,7 +11,7 @@ use std::marker::Model;
 
 // What stands behind a string: its datatype, or its tag.
 #[derive(Drop)]
-pub enum Suffix<'a> {
+pub(crate) enum Suffix<'a> {
     Datatype(StatedText<'a>),
     Tag(StatedText<'a>),
 }
@@ -38,7 +38,7 @@ impl Suffix<'_> {
 
 // A literal as a line states it.
 #[derive(Drop)]
-pub struct StatedLiteral<'a> {
+pub(crate) struct StatedLiteral<'a> {
     lexical: StatedText<'a>,
     suffix: Suffix<'a>,
 }
@@ -53,13 +53,13 @@ impl<'a> Model for StatedLiteral<'a> {
 }
 
 impl<'a> StatedLiteral<'a> {
-    pub fn new(lexical: StatedText<'a>, suffix: Suffix<'a>) -> Self
+    pub(crate) fn new(lexical: StatedText<'a>, suffix: Suffix<'a>) -> Self
         ensures { result ≡ record { lexical = lexical.entry; kind = suffix_kind suffix.entry } }
     {
         StatedLiteral { lexical, suffix }
     }
 
-    pub fn as_ref(&self) -> LiteralRef<'_>
+    pub(crate) fn as_ref(&self) -> LiteralRef<'_>
         ensures { literal_of result ≡ self.now }
     {
         LiteralRef {
@@ -69,7 +69,7 @@ impl<'a> StatedLiteral<'a> {
     }
 
     // Whether its datatype, where it has one, has a scheme.
-    pub fn is_absolute(&self) -> bool
+    pub(crate) fn is_absolute(&self) -> bool
         ensures { IsTrue result ↔ IsAbsoluteKind self.now.kind }
     {
         self.suffix.is_absolute()

@@ -8,7 +8,7 @@ use std::marker::Model;
 // The text of an IRI, a string, a tag or a label of a line: where no escape stands in it, it lies
 // in the line itself.
 #[derive(Drop)]
-pub struct StatedText<'a> {
+pub(crate) struct StatedText<'a> {
     text: CowStr<'a, Global>,
 }
 
@@ -22,7 +22,7 @@ impl<'a> Model for StatedText<'a> {
 }
 
 impl<'a> StatedText<'a> {
-    pub fn of_line(text: &'a str) -> Self
+    pub(crate) fn of_line(text: &'a str) -> Self
         ensures { result ≡ text.now }
     {
         StatedText {
@@ -30,7 +30,7 @@ impl<'a> StatedText<'a> {
         }
     }
 
-    pub fn with_escapes_undone(text: String) -> Self
+    pub(crate) fn with_escapes_undone(text: String) -> Self
         ensures { result ≡ string_bytes text }
     {
         StatedText {
@@ -38,7 +38,7 @@ impl<'a> StatedText<'a> {
         }
     }
 
-    pub fn as_str(&self) -> &str
+    pub(crate) fn as_str(&self) -> &str
         ensures { result.now ≡ self.now }
     {
         self.text.as_str()

@@ -13,7 +13,7 @@ use rdf_terms::Draft;
 use std::alloc::Global;
 
 // Adds what the lines state that the piece ends, and keeps the bytes behind them for the next one.
-pub fn take_piece(
+pub(crate) fn take_piece(
     alloc: Global,
     draft: &mut Draft,
     lines: &mut u64,

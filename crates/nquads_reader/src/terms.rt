@@ -31,7 +31,7 @@ fn spelled<'a>(alloc: Global, spelling: Spelling<'a>) -> Result<StatedText<'a>, 
 // Each function below answers what stands at the front of the text, and what follows it.
 
 #[inline(always)]
-pub fn iri(alloc: Global, text: &str) -> Result<Option<(StatedText<'_>, &str)>, NoMemory>
+pub(crate) fn iri(alloc: Global, text: &str) -> Result<Option<(StatedText<'_>, &str)>, NoMemory>
     ensures { IfOk result (Reads (λ x. (x.0, x.1.now)) (BeginsWithIri text.now)) }
 {
     let Some((spelling, rest)) = iriref(text) else {
@@ -51,7 +51,7 @@ fn string(alloc: Global, text: &str) -> Result<Option<(StatedText<'_>, &str)>, N
 }
 
 #[inline(always)]
-pub fn resource(alloc: Global, text: &str) -> Result<Option<(Resource<'_>, &str)>, NoMemory>
+pub(crate) fn resource(alloc: Global, text: &str) -> Result<Option<(Resource<'_>, &str)>, NoMemory>
     ensures { IfOk result (Reads (λ x. (x.0, x.1.now)) (BeginsWithResource text.now)) }
 {
     if let Some((iri, rest)) = iri(alloc, text)? {
@@ -125,7 +125,7 @@ fn literal(alloc: Global, text: &str) -> Result<Option<(StatedLiteral<'_>, &str)
 }
 
 #[inline(always)]
-pub fn object(alloc: Global, text: &str) -> Result<Option<(Object<'_>, &str)>, NoMemory>
+pub(crate) fn object(alloc: Global, text: &str) -> Result<Option<(Object<'_>, &str)>, NoMemory>
     ensures { IfOk result (Reads (λ x. (x.0, x.1.now)) (BeginsWithObject text.now)) }
 {
     if let Some((resource, rest)) = resource(alloc, text)? {

@@ -17,14 +17,14 @@ fn white_len(text: &[u8]) -> usize
 }
 
 // What follows the white space at the front.
-pub fn after_white(text: &str) -> &str
+pub(crate) fn after_white(text: &str) -> &str
     ensures { IsWhiteThen text.now result.now }
 {
     &text[white_len(text.as_bytes())..]
 }
 
 // Whether nothing is left but a comment.
-pub fn is_optional_comment(text: &str) -> bool
+pub(crate) fn is_optional_comment(text: &str) -> bool
     ensures { IsTrue result ↔ IsOptionalComment text.now }
 {
     match text.as_bytes().first() {

@@ -80,7 +80,9 @@ module _ (ts us : List Term) (old new : List Quad) (labels : List Label) (q : Qu
     there h = subst (In st) keep (subst (λ s. In s (map (statement us) old)) n.statement_is (In-map (statement us) old q h))
 
     gone : (¬ (In q old)) → ¬ (In st (statements before))
-    gone absent h = absent (from_statements us distinct old q (All-IsInRange-extends ts us old e d.in_range) n.in_range (subst (λ s. In s (map (statement us) old)) (sym n.statement_is) (subst (In st) (sym keep) h)))
+    gone absent h =
+        absent (from_statements us distinct old q (All-IsInRange-extends ts us old e d.in_range) n.in_range
+        (subst (λ s. In s (map (statement us) old)) (sym n.statement_is) (subst (In st) (sym keep) h)))
 
     -- the terms of a statement that is there are those of the table
     known : In st (statements before) → us ≡ ts

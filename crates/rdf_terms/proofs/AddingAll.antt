@@ -7,6 +7,7 @@ use Rattle.rdf_terms.specs.Terms.{Statement, IsValidStatement}
 use Rattle.rdf_terms.specs.Document.{Document, statements, Adds, AddsAll, Extends, Numbers, NumbersNext, NumbersAll, IsDraft}
 use Rattle.rdf_terms.specs.declared.term.Term.{Term}
 use Rattle.rdf_terms.specs.declared.term.Quad.{Quad}
+use Rattle.rdf_terms.specs.declared.limits.TheConstants.{MOST_QUADS}
 use Rattle.rdf_terms.specs.declared.term.Label.{Label}
 use Rattle.rdf_terms.specs.declared.term_ref.StatementRef.{StatementRef}
 use Rattle.rdf_terms.specs.References.{statement_of}
@@ -17,7 +18,8 @@ pub AddsAll-push : {A : Type 0} (old xs mid : List A) (x : A) (new : List A) →
 AddsAll-push old [] mid x new h a = (new, subst (λ o. Adds o x new) h a, refl)
 AddsAll-push old (y ∷ ys) mid x new h a = (h.0, h.1, AddsAll-push h.0 ys mid x new h.2 a)
 
-pub NumbersAll-push : (old : List Term) (sts : List Statement) (qs : List Quad) (mid : List Term) (st : Statement) (q : Quad) (new : List Term) → NumbersAll old sts qs mid → Numbers mid new st q → Extends mid new → AreDistinct new
+pub NumbersAll-push : (old : List Term) (sts : List Statement) (qs : List Quad) (mid : List Term) (st : Statement) (q : Quad) (new : List Term) → NumbersAll old sts qs mid → Numbers mid new st q
+    → Extends mid new → AreDistinct new
     → NumbersAll old (sts ++ st ∷ []) (qs ++ q ∷ []) new
 NumbersAll-push old [] [] mid st q new h n e d = (new, subst (λ o. NumbersNext o st q new) h (record { numbers = n; extends = e; distinct = d }), refl)
 NumbersAll-push old [] (p ∷ qs) mid st q new h n e d = absurd h
@@ -33,7 +35,7 @@ module _ (labels : List Label) where
     pub adds : AddsAll (statements (draft_of ts old)) sts (statements (draft_of us new))
 
   pub added_all : (ts us : List Term) (old new : List Quad) (sts : List Statement) (qs : List Quad) → IsDraft (draft_of ts old) → NumbersAll ts sts qs us → AddsAll old qs new
-      → All (IsValidStatement (length labels)) sts → length old + length sts ≤ 1000000000 → AddedAll ts us old new sts
+      → All (IsValidStatement (length labels)) sts → length old + length sts ≤ MOST_QUADS → AddedAll ts us old new sts
   added_all ts us old new [] [] d n a v room =
       let same : draft_of us new ≡ draft_of ts old = λ i. record { terms = n i; quads = a i; labels = labels } in
       record { draft = subst IsDraft (sym same) d; adds = ap statements same }
@@ -48,5 +50,5 @@ module _ (labels : List Label) where
   pub all_valid : (qs : List StatementRef) → All (λ q. IsValidStatement (length labels) (statement_of q)) qs → All (IsValidStatement (length labels)) (map statement_of qs)
   all_valid qs h = All-map (IsValidStatement (length labels)) statement_of qs h
 
-pub same_room : (old : List Quad) (qs : List StatementRef) → length old + length qs ≤ 1000000000 → length old + length (map statement_of qs) ≤ 1000000000
+pub same_room : (old : List Quad) (qs : List StatementRef) → length old + length qs ≤ MOST_QUADS → length old + length (map statement_of qs) ≤ MOST_QUADS
 same_room old qs h = omega (arith, h, length-map qs statement_of)

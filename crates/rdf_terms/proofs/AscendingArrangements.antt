@@ -61,7 +61,8 @@ ascending_blocks F f (x ∷ xs) c = ascending_append _ _ (ascending_map x (F x) 
 
 arrangements_of_length-ascending : (k : ℕ) (b : List ℕ) → AreStrictlyAscending (arrangements_of_length k b)
 arrangements_of_length-ascending zero b = ((λ q h. absurd h), tt)
-arrangements_of_length-ascending (suc k) b = ascending_blocks (λ x. arrangements_of_length k (without x b)) (λ x. arrangements_of_length-ascending k (without x b)) (ascending_once b) (ascending_once-ascending b)
+arrangements_of_length-ascending (suc k) b =
+    ascending_blocks (λ x. arrangements_of_length k (without x b)) (λ x. arrangements_of_length-ascending k (without x b)) (ascending_once b) (ascending_once-ascending b)
 
 pub arrangements-ascending : (b : List ℕ) → AreStrictlyAscending (arrangements b)
 arrangements-ascending b = arrangements_of_length-ascending (length b) b

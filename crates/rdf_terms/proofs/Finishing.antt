@@ -230,7 +230,9 @@ module _ (nodes n : ℕ) where
 
 -- the labels of all nodes are all labels
 map-label_at_from : (n : ℕ) (xs : List Label) → length xs ≡ n → map (label_at xs) (numbers_below n) ≡ xs
-map-label_at_from n xs e = same_lists _ xs (length-map (numbers_below n) (label_at xs) ∙ length-numbers_below n ∙ sym e) (λ k d l. at k d (omega (arith, length-map (numbers_below n) (label_at xs), l, length-numbers_below n)))
+map-label_at_from n xs e =
+    same_lists _ xs (length-map (numbers_below n) (label_at xs) ∙ length-numbers_below n ∙ sym e)
+    (λ k d l. at k d (omega (arith, length-map (numbers_below n) (label_at xs), l, length-numbers_below n)))
   where
     at : (k : ℕ) (d : Label) → k < n → get_or (map (label_at xs) (numbers_below n)) k d ≡ get_or xs k d
     at k d l =

@@ -1,6 +1,7 @@
 -- A table of terms with their hashes answers as the list of its terms would, whatever the keys are.
 use Rattle.std.proofs.Common.{◌≡◌, ℕ, ◌+◌, Bool, true, false, cond, not, nat_lt, eqb, ◌&&◌, ◌||◌, List, [], ◌∷◌, ◌++◌, map, take, length, Some, None, Option, option_map, slice_get, if◌then◌else◌, inl, inr, refl, sym, ap, subst, ◌∙◌}
 use Rattle.std.specs.List.{list_any, position, prefix_len}
+use Rattle.std.proofs.lemmas.Bool.{and_parts}
 use Rattle.std.proofs.lemmas.List.{length-map, map-append, take-map}
 use Rattle.std.proofs.lemmas.Option.{slice_get-map}
 use Rattle.std.specs.declared.hash.RandomState.{RandomState}
@@ -9,7 +10,7 @@ use Rattle.rdf_terms.specs.References.{term_of}
 use Rattle.rdf_terms.specs.LookupHash.{lookup_hash}
 use Rattle.rdf_terms.specs.HashedTerm.{hashed, terms_of, AreHashed}
 use Rattle.rdf_terms.specs.Ends.{known_in, ends_of, places_in}
-use Rattle.rdf_terms.specs.SameTerm.{both, same_term}
+use Rattle.rdf_terms.proofs.Equal.{same_term}
 use Rattle.rdf_terms.specs.declared.term.Term.{Term}
 use Rattle.rdf_terms.specs.declared.term_ref.StatementRef.{StatementRef}
 use Rattle.rdf_terms.specs.declared.hashed_term.HashedTerm.{HashedTerm}
@@ -86,4 +87,4 @@ pub at_number : (hs : List HashedTerm) (n : ℕ) (h : HashedTerm) → slice_get 
 at_number hs n h e = term_at_number hs n ∙ ap (option_map (λ (h : HashedTerm). h.term)) e
 
 pub stored_is : (k : RandomState) (t : Term) (h : HashedTerm) → eq-hashed.it (hashed k t) h ≡ true → t ≡ h.term
-stored_is k t h e = same_term t h.term (both _ _ e).1
+stored_is k t h e = same_term t h.term (and_parts _ _ e).1

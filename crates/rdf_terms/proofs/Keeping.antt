@@ -82,7 +82,8 @@ drop_nil zero = refl
 drop_nil (suc k) = refl
 
 shifted : (b : Bool) (bs : List Bool) (x : Label) (xs : List Label) (n : ℕ)
-    → map (label_at (x ∷ xs)) (filter (mark_in (b ∷ bs)) (numbers_below (suc n))) ≡ (if b then x ∷ map (label_at xs) (filter (mark_in bs) (numbers_below n)) else map (label_at xs) (filter (mark_in bs) (numbers_below n)))
+    → map (label_at (x ∷ xs)) (filter (mark_in (b ∷ bs)) (numbers_below (suc n)))
+    ≡ (if b then x ∷ map (label_at xs) (filter (mark_in bs) (numbers_below n)) else map (label_at xs) (filter (mark_in bs) (numbers_below n)))
 shifted true bs x xs zero = refl
 shifted false bs x xs zero = refl
 shifted b bs x xs (suc n) =
@@ -96,20 +97,24 @@ shifted b bs x xs (suc n) =
     filter_push p [] n = refl
     filter_push p (m ∷ ns) n = by (p m) (filter_push p ns n)
       where
-        by : (c : Bool) → filter p (ns ++ n ∷ []) ≡ filter p ns ++ (if p n then n ∷ [] else []) → (if c then m ∷ filter p (ns ++ n ∷ []) else filter p (ns ++ n ∷ [])) ≡ (if c then m ∷ filter p ns else filter p ns) ++ (if p n then n ∷ [] else [])
+        by : (c : Bool) → filter p (ns ++ n ∷ []) ≡ filter p ns ++ (if p n then n ∷ [] else [])
+            → (if c then m ∷ filter p (ns ++ n ∷ []) else filter p (ns ++ n ∷ [])) ≡ (if c then m ∷ filter p ns else filter p ns) ++ (if p n then n ∷ [] else [])
         by true e = ap (λ w. m ∷ w) e
         by false e = e
 
     split_last : {A : Type 0} (p : ℕ → Bool) (f : ℕ → A) (n : ℕ) → map f (filter p (numbers_below (suc n))) ≡ map f (filter p (numbers_below n)) ++ map f (if p n then n ∷ [] else [])
     split_last p f n = ap (map f) (filter_push p (numbers_below n) n) ∙ map-append f (filter p (numbers_below n)) (if p n then n ∷ [] else [])
 
-    front : (b c : Bool) (ls : List Label) (n : ℕ) → (if b then x ∷ ls else ls) ++ map (label_at (x ∷ xs)) (if c then suc n ∷ [] else []) ≡ (if b then x ∷ (ls ++ map (label_at xs) (if c then n ∷ [] else [])) else (ls ++ map (label_at xs) (if c then n ∷ [] else [])))
+    front : (b c : Bool) (ls : List Label) (n : ℕ)
+        → (if b then x ∷ ls else ls) ++ map (label_at (x ∷ xs)) (if c then suc n ∷ [] else [])
+        ≡ (if b then x ∷ (ls ++ map (label_at xs) (if c then n ∷ [] else [])) else (ls ++ map (label_at xs) (if c then n ∷ [] else [])))
     front true true ls n = refl
     front true false ls n = refl
     front false true ls n = refl
     front false false ls n = refl
 
-pub marked_of-numbers : (marks : List Bool) (labels : List Label) → length marks ≡ length labels → marked_of marks labels ≡ map (label_at labels) (filter (mark_in marks) (numbers_below (length marks)))
+pub marked_of-numbers : (marks : List Bool) (labels : List Label) → length marks ≡ length labels
+    → marked_of marks labels ≡ map (label_at labels) (filter (mark_in marks) (numbers_below (length marks)))
 marked_of-numbers [] labels e = refl
 marked_of-numbers (b ∷ bs) [] e = absurd (omega arith)
 marked_of-numbers (b ∷ bs) (l ∷ ls) e = ap (λ w. if b then l ∷ w else w) (marked_of-numbers bs ls (omega arith)) ∙ sym (shifted b bs l ls (length bs))

@@ -22,5 +22,6 @@ known_kept ts us t (Some n) e h = kept ts us n t e h
 pub known_there : (ts us : List Term) (t : Term) (known : Option ℕ) → known ≡ number_of ts t → Extends ts us → IfSome known (λ n. slice_get us n ≡ Some t)
 known_there ts us t known h e = known_kept ts us t known e (known_now ts t known h)
 
-pub known_at : (ts : List Term) (qs : List StatementRef) (ks : List KnownEnds) (i : ℕ) (q : StatementRef) (d : KnownEnds) → ks ≡ map (known_in ts) qs → i < length qs → get_or ks i d ≡ known_in ts (get_or qs i q)
+pub known_at : (ts : List Term) (qs : List StatementRef) (ks : List KnownEnds) (i : ℕ) (q : StatementRef) (d : KnownEnds) → ks ≡ map (known_in ts) qs → i < length qs
+    → get_or ks i d ≡ known_in ts (get_or qs i q)
 known_at ts qs ks i q d e l = ap (λ xs. get_or xs i d) e ∙ get_or-map (known_in ts) qs i q d l

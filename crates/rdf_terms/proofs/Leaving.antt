@@ -62,7 +62,9 @@ module _ (ts : List Term) (qs : List Quad) (labels : List Label) (d : IsDraft (r
       apart (Iri a) (Blank b) i j e = cc
       apart (Iri a) (Literal b) i j e = e
       apart (Blank a) (Iri b) i j e = cc
-      apart (Blank a) (Blank b) i j e = let same : new_number (statements before) a ≡ new_number (statements before) b = cc in ap Blank (rank-injective (is_mentioned (statements before)) a b (blank_mentioned a i) (blank_mentioned b j) same)
+      apart (Blank a) (Blank b) i j e =
+          let same : new_number (statements before) a ≡ new_number (statements before) b = cc in
+          ap Blank (rank-injective (is_mentioned (statements before)) a b (blank_mentioned a i) (blank_mentioned b j) same)
       apart (Blank a) (Literal b) i j e = cc
       apart (Literal a) (Iri b) i j e = e
       apart (Literal a) (Blank b) i j e = cc

@@ -1,6 +1,7 @@
 pub mod Membership
 pub mod MadeLists
 pub mod Added
+pub mod Equal
 pub mod SameTerm
 pub mod HashedTerms
 pub mod Growing

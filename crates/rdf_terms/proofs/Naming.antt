@@ -3,11 +3,12 @@ use Rattle.std.proofs.Common.{ℕ, ◌+◌, ◌<◌, ◌≤◌, List, [], ◌∷
 use Rattle.std.proofs.lemmas.List.Elements.{All-weaker}
 use Rattle.rdf_terms.specs.Terms.{Statement, IsValidStatement, IsValidTerm}
 use Rattle.rdf_terms.specs.Document.{Adds, IsDraft, statements}
+use Rattle.rdf_terms.specs.declared.limits.TheConstants.{MOST_NUMBERS}
 use Rattle.rdf_terms.specs.declared.term.Term.{Term}
 use Rattle.rdf_terms.specs.declared.term.Term.TheVariants.{Iri, Blank, Literal}
 use Rattle.rdf_terms.specs.declared.term.Quad.{Quad}
 use Rattle.rdf_terms.specs.declared.term.Label.{Label}
-use Rattle.rdf_terms.proofs.Membership.{AreDistinct-adds}
+use Rattle.rdf_terms.proofs.Membership.{AreDistinct-adds, Extends-adds, length-adds}
 
 module _ (m n : ℕ) (more : m ≤ n) where
   term_stays : (t : Term) → IsValidTerm m t → IsValidTerm n t
@@ -31,20 +32,19 @@ module _ (m n : ℕ) (more : m ≤ n) where
     graph_name = graph_stays st.graph_name v.graph_name;
   }
 
-length-adds : {A : Type 0} (old : List A) (x : A) (new : List A) → Adds old x new → (length old ≤ length new) × (length new ≤ length old + 1)
-length-adds old x new (inl p) = (omega (arith, ap length p.0), omega (arith, ap length p.0))
-length-adds old x new (inr p) = (omega (arith, ap length p.0, length-append old (x ∷ [])), omega (arith, ap length p.0, length-append old (x ∷ [])))
-
-pub IsDraft-label : (terms : List Term) (quads : List Quad) (old new : List Label) (label : Label) → length old < 4294967295
+pub IsDraft-label : (terms : List Term) (quads : List Quad) (old new : List Label) (label : Label) → length old < MOST_NUMBERS
     → IsDraft (record { terms = terms; quads = quads; labels = old }) → Adds old label new → IsDraft (record { terms = terms; quads = quads; labels = new })
 IsDraft-label terms quads old new label room d a =
-    let bounds = length-adds old label new a in record {
+    let more = Extends-adds old label new a in
+    let stays : length old ≤ length new = omega (arith, ap length more.1, length-append old more.0) in
+    let bound = length-adds old label new a in record {
       in_range = d.in_range;
-      valid = All-weaker (IsValidStatement (length old)) (IsValidStatement (length new)) (IsValidStatement-more (length old) (length new) bounds.0) (statements (record { terms = terms; quads = quads; labels = old })) d.valid;
+      valid = All-weaker (IsValidStatement (length old)) (IsValidStatement (length new)) (IsValidStatement-more (length old) (length new) stays)
+          (statements (record { terms = terms; quads = quads; labels = old })) d.valid;
       distinct = d.distinct;
       distinct_labels = AreDistinct-adds old label new a d.distinct_labels;
       term_used = d.term_used;
       terms_bound = d.terms_bound;
       quads_bound = d.quads_bound;
-      labels_bound = omega (arith, bounds.1);
+      labels_bound = omega (arith, bound);
     }

@@ -1,5 +1,6 @@
 -- Numerals: written digit by digit, with a value, so that different numbers have different numerals.
-use Rattle.std.proofs.Common.{◌≡◌, ℕ, zero, suc, ◌+◌, ◌/◌, ◌%◌, ◌^◌, ◌<◌, ◌≤◌, ◌≢◌, ◌⊎◌, List, [], ◌∷◌, ◌++◌, length, get_or, inl, inr, refl, sym, ap, ◌∙◌, subst, arith, length-append}
+use Rattle.std.proofs.Common.{◌≡◌, ℕ, zero, suc, ◌+◌, ◌/◌, ◌%◌, ◌^◌, ◌<◌, ◌≤◌, ◌≢◌, ◌⊎◌, List, [], ◌∷◌, ◌++◌, length, reverse, get_or, inl, inr, refl, sym, ap, ◌∙◌, subst, arith, length-append}
+use mathlib.Core.List.{reverse-cons}
 use Rattle.std.specs.Str.{IsAscii}
 use Rattle.std.specs.Str.Parse.{digits_value}
 use Rattle.std.specs.Fmt.{decimal}
@@ -11,7 +12,7 @@ use Rattle.std.proofs.lemmas.List.{append_cancel_left}
 use Rattle.std.proofs.lemmas.Str.{digit_value_digit}
 use Rattle.std.proofs.Math.ListN.{get_or-append}
 use Rattle.rdf_terms.specs.Lists.{Text, In}
-use Rattle.rdf_terms.specs.Numeral.{next_digits, digits_from_last, turned, numeral}
+use Rattle.rdf_terms.specs.Numeral.{next_digits, digits_from_last, numeral}
 use Rattle.rdf_terms.specs.CanonicalForm.{identifier, prefix_text}
 use Rattle.rdf_terms.specs.declared.term.Prefix.{Prefix}
 use Rattle.rdf_terms.proofs.Membership.{In-append}
@@ -84,11 +85,11 @@ by_digits (suc n) = next_by_digits n (by_digits n)
 
 pub numeral-digit : (n : ℕ) → n < 10 → numeral n ≡ (48 + n) ∷ []
 unfolding numeral
-numeral-digit n h = ap turned ((by_digits n).0 h)
+numeral-digit n h = ap reverse ((by_digits n).0 h)
 
 pub numeral-step : (n : ℕ) → 10 ≤ n → numeral n ≡ numeral (n / 10) ++ (48 + n % 10) ∷ []
 unfolding numeral
-numeral-step n h = ap turned ((by_digits n).1 h)
+numeral-step n h = ap reverse ((by_digits n).1 h) ∙ reverse-cons (48 + n % 10) (digits_from_last (n / 10))
 
 -- what holds of one digit, and of one more digit at the end, holds of a numeral
 module _ (P : ℕ → Text → Type 0) (one : (n : ℕ) → n < 10 → P n ((48 + n) ∷ [])) (more : (n : ℕ) (ds : Text) → 10 ≤ n → P (n / 10) ds → P n (ds ++ (48 + n % 10) ∷ [])) where

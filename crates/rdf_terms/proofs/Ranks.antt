@@ -128,7 +128,8 @@ pub filter-numbers_below_agree : (p q : ℕ → Bool) (n : ℕ) → ((k : ℕ) �
 filter-numbers_below_agree p q zero e = refl
 filter-numbers_below_agree p q (suc n) e =
     let l : n < suc n = omega arith in
-    filter-numbers_below_suc p n (q n) (e n l) ∙ ap (λ w. w ++ (if q n then n ∷ [] else [])) (filter-numbers_below_agree p q n (λ k h. let m : k < suc n = omega arith in e k m)) ∙ sym (filter-numbers_below_suc q n (q n) refl)
+    filter-numbers_below_suc p n (q n) (e n l) ∙ ap (λ w. w ++ (if q n then n ∷ [] else [])) (filter-numbers_below_agree p q n (λ k h. let m : k < suc n = omega arith in e k m))
+    ∙ sym (filter-numbers_below_suc q n (q n) refl)
 
 pub filter-numbers_below_all : (p : ℕ → Bool) (n : ℕ) → ((k : ℕ) → k < n → p k ≡ true) → filter p (numbers_below n) ≡ numbers_below n
 filter-numbers_below_all p zero e = refl

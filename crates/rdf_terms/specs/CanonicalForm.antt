@@ -1,4 +1,5 @@
--- Canonical N-Quads (RDF Dataset Canonicalization, appendix A, "A Canonical form of N-Quads", and section 5), under names for the blank nodes.
+-- Canonical N-Quads under names for the blank nodes: the form of a line (RDF Dataset Canonicalization, appendix A, "A
+-- Canonical form of N-Quads"), and the lines of a dataset in order, one after the other (its section 5).
 use Rattle.std.specs.Prelude.{ℕ, suc, Bool, ◌||◌, ◌&&◌, ◌==◌, nat_le, nat_lt, if◌then◌else◌, List, [], ◌∷◌, ◌++◌, ◌+◌, ◌/◌, ◌%◌, map, Option, Some, None, codes}
 use Rattle.std.specs.List.{flat_map}
 use Rattle.std.specs.Str.{bytes_eq}
@@ -62,7 +63,8 @@ hex_digit d = if nat_lt d 10 then 48 + d else 55 + d
 abbrev pub is_written_by_number : ℕ → Bool
 is_written_by_number c = nat_le c 7 || (c == 11 || ((nat_le 14 c && nat_le c 31) || c == 127))
 
--- what is written for a byte of a string: each escaped character is one byte of UTF-8, and all others are written natively
+-- what is written for a byte of a string: each escaped character is one byte of UTF-8, and all others are written
+-- natively
 unfoldable pub escaped : ℕ → Text
 escaped c =
     if c == 8 then codes "\\b"
@@ -97,7 +99,11 @@ canonical_graph_name ν (Some t) = canonical_term ν t ++ codes " "
 -- one space follows the subject, the predicate, the object and the graph name; then come a dot and a line feed
 unfoldable pub canonical_line : Naming → Statement → Text
 canonical_line ν st =
-    canonical_term ν st.subject ++ (codes " " ++ (canonical_term ν st.predicate ++ (codes " " ++ (canonical_term ν st.object ++ (codes " " ++ (canonical_graph_name ν st.graph_name ++ codes ".\n"))))))
+    canonical_term ν st.subject
+    ++ (codes " "
+    ++ (canonical_term ν st.predicate
+    ++ (codes " "
+    ++ (canonical_term ν st.object ++ (codes " " ++ (canonical_graph_name ν st.graph_name ++ codes ".\n"))))))
 
 -- the lines of all quads in byte order, one after the other (RDF Dataset Canonicalization, section 5)
 abbrev pub canonical_nquads : Dataset → Naming → Text

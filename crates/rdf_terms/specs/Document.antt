@@ -5,6 +5,7 @@ use Rattle.rdf_terms.specs.Lists.{In, AreDistinct, numbers_below}
 use Rattle.rdf_terms.specs.Terms.{Statement, IsValidStatement}
 use Rattle.rdf_terms.specs.Dataset.{Dataset, IsUsed, mentions}
 use Rattle.rdf_terms.specs.Isomorphism.{relabel_statement}
+use Rattle.rdf_terms.specs.declared.limits.TheConstants.{MOST_QUADS, MOST_NUMBERS}
 use Rattle.rdf_terms.specs.declared.term.Term.{Term}
 use Rattle.rdf_terms.specs.declared.term.Term.TheVariants.{Iri, Blank, Literal}
 use Rattle.rdf_terms.specs.declared.term.Quad.{Quad}
@@ -28,7 +29,12 @@ graph_name_at terms None = None
 graph_name_at terms (Some n) = Some (term_at terms n)
 
 abbrev pub statement : List Term → Quad → Statement
-statement terms q = record { subject = term_at terms q.s; predicate = term_at terms q.p; object = term_at terms q.o; graph_name = graph_name_at terms q.g }
+statement terms q = record {
+  subject = term_at terms q.s;
+  predicate = term_at terms q.p;
+  object = term_at terms q.o;
+  graph_name = graph_name_at terms q.g;
+}
 
 -- the numbers of the quad are those of terms
 pub record IsInRange (terms : List Term) (q : Quad) : Type 0 where
@@ -101,8 +107,8 @@ pub record IsDraft (d : Document) : Type 0 where
   -- each blank node among the terms is mentioned by a quad
   pub term_used : (n : ℕ) → In (Blank n) d.terms → IsUsed (statements d) n
   pub terms_bound : length d.terms ≤ 4 * length d.quads
-  pub quads_bound : length d.quads ≤ 1000000000
-  pub labels_bound : length d.labels ≤ 4294967295
+  pub quads_bound : length d.quads ≤ MOST_QUADS
+  pub labels_bound : length d.labels ≤ MOST_NUMBERS
 
 -- a document that was read whole: each node stands in a quad
 pub record IsDocument (d : Document) : Type 0 where

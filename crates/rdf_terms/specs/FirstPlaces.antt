@@ -3,7 +3,8 @@ use Rattle.std.specs.Prelude.{◌≡◌, ℕ, ◌↔◌, List, [], ◌++◌, tak
 use Rattle.rdf_terms.specs.Lists.{In, AreDistinct}
 use Rattle.rdf_terms.specs.Document.{AddsAll}
 
--- each element of xs once, by its first place there: where xs begins with some elements, the list begins with just these
+-- each element of xs once, by its first place there: where xs begins with some elements, the list begins with just
+-- these
 pub record AreByFirstPlace {A : Type 0} (xs new : List A) : Type 0 where
   pub distinct : AreDistinct new
   pub all : (x : A) → In x new → In x xs

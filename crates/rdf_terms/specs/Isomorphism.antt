@@ -6,7 +6,8 @@ use Rattle.rdf_terms.specs.Dataset.{Dataset}
 use Rattle.rdf_terms.specs.declared.term.Term.{Term}
 use Rattle.rdf_terms.specs.declared.term.Term.TheVariants.{Iri, Blank, Literal}
 
--- a bijection of the nodes below a number; it is told for all numbers, and what it does to those past the nodes never matters
+-- a bijection of the blank nodes below a number; it is told for all numbers, and what it does to those past the blank
+-- nodes never matters
 pub record Relabelling (nodes : ℕ) : Type 0 where
   pub to : ℕ → ℕ
   pub from : ℕ → ℕ

@@ -6,8 +6,6 @@ pub mod Terms
 pub mod References
 pub mod LookupHash
 pub mod FedText
-pub mod SameTerm
-pub mod ReferenceHash
 pub mod Dataset
 pub mod Isomorphism
 pub mod CanonicalForm
@@ -16,4 +14,5 @@ pub mod Lexicon
 pub mod HashedTerm
 pub mod Ends
 pub mod QuadHash
+pub mod FedAlike
 pub mod FirstPlaces

@@ -1,6 +1,7 @@
 -- Lists: membership, distinct elements, the same elements in another order, and texts in byte order.
 use Rattle.std.specs.Prelude.{◌≡◌, ℕ, zero, suc, Bool, not, ◌⊎◌, List, [], ◌∷◌, ◌++◌, if◌then◌else◌}
 use Rattle.std.specs.Cmp.Lexicographic.{slice_cmp}
+use Rattle.std.specs.List.{concat}
 use Rattle.std.specs.Ordering.{nat_cmp, is_gt, is_lt}
 
 -- x is one of the elements
@@ -47,5 +48,4 @@ sorted (x ∷ xs) = insert_sorted x (sorted xs)
 
 -- the texts one after the other
 abbrev pub joined : List Text → Text
-joined [] = []
-joined (x ∷ xs) = x ++ joined xs
+joined texts = concat texts

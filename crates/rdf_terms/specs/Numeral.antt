@@ -1,5 +1,5 @@
 -- Decimal numerals without sign or leading zero.
-use Rattle.std.specs.Prelude.{ℕ, zero, suc, List, [], ◌∷◌, ◌++◌, ◌==◌, if◌then◌else◌}
+use Rattle.std.specs.Prelude.{ℕ, zero, suc, List, [], ◌∷◌, reverse, ◌==◌, if◌then◌else◌}
 use Rattle.rdf_terms.specs.Lists.{Text}
 
 -- the digits of the next number, the last digit first: 48 is '0' and 57 is '9'
@@ -12,10 +12,6 @@ unfoldable pub digits_from_last : ℕ → List ℕ
 digits_from_last zero = 48 ∷ []
 digits_from_last (suc n) = next_digits (digits_from_last n)
 
-abbrev pub turned : List ℕ → List ℕ
-turned [] = []
-turned (d ∷ ds) = turned ds ++ d ∷ []
-
 -- the numeral of a number
 unfoldable pub numeral : ℕ → Text
-numeral n = turned (digits_from_last n)
+numeral n = reverse (digits_from_last n)

@@ -34,7 +34,12 @@ graph_name_of None = None
 graph_name_of (Some t) = Some (term_of t)
 
 abbrev pub statement_of : StatementRef → Statement
-statement_of q = record { subject = term_of q.subject; predicate = term_of q.predicate; object = term_of q.object; graph_name = graph_name_of q.graph_name }
+statement_of q = record {
+  subject = term_of q.subject;
+  predicate = term_of q.predicate;
+  object = term_of q.object;
+  graph_name = graph_name_of q.graph_name;
+}
 
 abbrev pub label_of : LabelRef → Label
 label_of (NamedRef name) = Named name.now

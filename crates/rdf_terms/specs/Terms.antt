@@ -41,9 +41,13 @@ pub record HasScheme (text : Text) : Type 0 where
   pub begins : is_ascii_alphabetic letter ≡ true
   pub goes_on : All (λ c. is_scheme_byte c ≡ true) more
 
--- the characters that IRIREF excludes (RDF 1.1 N-Quads, section 4): U+0000 to U+0020, `<`, `>`, `"`, `{`, `}`, `|`, `^`, the grave accent and `\`
+-- the characters that IRIREF excludes (RDF 1.1 N-Quads, section 4): U+0000 to U+0020, `<`, `>`, `"`, `{`, `}`, `|`,
+-- `^`, the grave accent and `\`
 abbrev pub is_excluded : ℕ → Bool
-is_excluded c = nat_le c 32 || (c == 60 || (c == 62 || (c == 34 || (c == 123 || (c == 125 || (c == 124 || (c == 94 || (c == 96 || c == 92))))))))
+is_excluded c =
+    nat_le c 32
+    || (c == 60
+    || (c == 62 || (c == 34 || (c == 123 || (c == 125 || (c == 124 || (c == 94 || (c == 96 || c == 92))))))))
 
 pub record IsAbsoluteIri (text : Text) : Type 0 where
   pub has_scheme : HasScheme text

@@ -9,7 +9,10 @@ ghost use Rattle.rdf_terms.specs.References.{statement_of, graph_name_of, label_
 
 use crate::finish::{are_all_used, new_numbers, used_labels, used_nodes};
 use crate::numbering::{insert_all, number_all, number_terms};
-use crate::{Label, LabelRef, NoMemory, Parsed, Quad, StatementRef, Term, TermRef, TermTable};
+use crate::{
+    Label, LabelRef, MOST_NUMBERS, MOST_QUADS, NoMemory, Parsed, Quad, StatementRef, Term, TermRef,
+    TermTable,
+};
 use indexmap::IndexSet;
 use std::alloc::Global;
 use std::hash::RandomState;
@@ -76,7 +79,7 @@ impl Draft {
 
     /// The number of the node with this label: the old one where it is there, else the next.
     pub fn node(&mut self, label: Label) -> Result<u32, NoMemory>
-        requires { length self.old.labels < 4294967295 }
+        requires { length self.old.labels < MOST_NUMBERS }
         ensures ok { IfOk result (Interns self.old.labels self.new.labels label) }
         ensures statements { statements self.new ≡ statements self.old }
         ensures err { OnErr result (self.new ≡ self.old) }
@@ -87,7 +90,7 @@ impl Draft {
 
     /// The same as `node`, of a label that is copied only where it is new.
     pub fn node_ref(&mut self, label: LabelRef<'_>) -> Result<u32, NoMemory>
-        requires { length self.old.labels < 4294967295 }
+        requires { length self.old.labels < MOST_NUMBERS }
         ensures ok { IfOk result (Interns self.old.labels self.new.labels (label_of label.entry)) }
         ensures statements { statements self.new ≡ statements self.old }
         ensures err { OnErr result (self.new ≡ self.old) }
@@ -102,7 +105,7 @@ impl Draft {
     /// Adds a quad by its terms, and says whether it is new.
     pub fn add(&mut self, s: Term, p: Term, o: Term, g: Option<Term>) -> Result<bool, NoMemory>
         requires valid { IsValidStatement (length self.old.labels) (record { subject = s; predicate = p; object = o; graph_name = g }) }
-        requires room { length self.old.quads < 1000000000 }
+        requires room { length self.old.quads < MOST_QUADS }
         ensures adds { IfOk result (λ _. Adds (statements self.old) (record { subject = s; predicate = p; object = o; graph_name = g }) (statements self.new)) }
         ensures new { IfOk result (λ new. IsTrue new ↔ (¬ (In (record { subject = s; predicate = p; object = o; graph_name = g }) (statements self.old)))) }
         ensures labels { self.new.labels ≡ self.old.labels }
@@ -119,7 +122,7 @@ impl Draft {
     /// The same as `add`, of terms that are copied only where they are new.
     pub fn add_ref(&mut self, quad: StatementRef<'_>) -> Result<bool, NoMemory>
         requires valid { IsValidStatement (length self.old.labels) (statement_of quad) }
-        requires room { length self.old.quads < 1000000000 }
+        requires room { length self.old.quads < MOST_QUADS }
         ensures adds { IfOk result (λ _. Adds (statements self.old) (statement_of quad.entry) (statements self.new)) }
         ensures new { IfOk result (λ new. IsTrue new ↔ (¬ (In (statement_of quad.entry) (statements self.old)))) }
         ensures labels { self.new.labels ≡ self.old.labels }
@@ -142,7 +145,7 @@ impl Draft {
     /// of them is added.
     pub fn add_all(&mut self, quads: &[StatementRef<'_>]) -> Result<(), NoMemory>
         requires valid { All (λ q. IsValidStatement (length self.old.labels) (statement_of q)) quads.now }
-        requires room { length self.old.quads + length quads.now ≤ 1000000000 }
+        requires room { length self.old.quads + length quads.now ≤ MOST_QUADS }
         ensures adds { OnOk result (AddsAll (statements self.old) (map statement_of quads.now) (statements self.new)) }
         ensures labels { self.new.labels ≡ self.old.labels }
         ensures err { OnErr result (self.new ≡ self.old) }

@@ -8,14 +8,14 @@ use indexmap::IndexSet;
 use std::alloc::Global;
 use std::hash::RandomState;
 
-/// The subject and the object of a statement, with their hashes.
+// The subject and the object of a statement, with their hashes.
 #[derive(Clone, Copy)]
 pub(crate) struct HashedEnds<'a> {
     subject: HashedTermRef<'a>,
     object: HashedTermRef<'a>,
 }
 
-/// The numbers of a statement's subject and object, where the table has them.
+// The numbers of a statement's subject and object, where the table has them.
 #[derive(Clone, Copy)]
 pub(crate) struct KnownEnds {
     pub(crate) subject: Option<usize>,
@@ -92,8 +92,8 @@ fn find_all(
     Ok(ends.iter().map(|ends| ends.find(terms)).collect(alloc)?)
 }
 
-/// The places of the ends of these quads, where the table has them under these keys. Where it may
-/// lack some, it has room for them.
+// The places of the ends of these quads, where the table has them under these keys. Where it may
+// lack some, it has room for them.
 pub(crate) fn find_ends(
     alloc: Global,
     keys: RandomState,

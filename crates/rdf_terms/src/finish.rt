@@ -20,8 +20,12 @@ fn mark(used: &mut Vec<bool>, term: &Term)
     }
 }
 
-/// Which of so many nodes stand in the table.
-pub fn used_nodes(alloc: Global, terms: &TermTable, nodes: usize) -> Result<Vec<bool>, NoMemory>
+// Which of so many nodes stand in the table.
+pub(crate) fn used_nodes(
+    alloc: Global,
+    terms: &TermTable,
+    nodes: usize,
+) -> Result<Vec<bool>, NoMemory>
     requires { (n : ℕ) → In (Blank n) terms.now → n < nodes }
     ensures len { IfOk result (λ v. length v.items ≡ nodes) }
     ensures used { IfOk result (λ v. (n : ℕ) → (mark_in v.items n ≡ true) ↔ In (Blank n) terms.now) }
@@ -36,15 +40,15 @@ pub fn used_nodes(alloc: Global, terms: &TermTable, nodes: usize) -> Result<Vec<
     Ok(used)
 }
 
-/// Whether all are marked.
-pub fn are_all_used(used: &[bool]) -> bool
+// Whether all are marked.
+pub(crate) fn are_all_used(used: &[bool]) -> bool
     ensures { IsTrue result ↔ EachIndex used.now (λ n. mark_in used.now n ≡ true) }
 {
     used.iter().all(|is_used| *is_used)
 }
 
-/// For each node the number of used nodes before it.
-pub fn new_numbers(alloc: Global, used: &[bool]) -> Result<Vec<u32>, NoMemory>
+// For each node the number of used nodes before it.
+pub(crate) fn new_numbers(alloc: Global, used: &[bool]) -> Result<Vec<u32>, NoMemory>
     requires { length used.now < 2 ^ 32 }
     ensures { IfOk result (λ v. v.items ≡ map (λ n. length (filter (mark_in used.now) (numbers_below n))) (numbers_below (length used.now))) }
 {
@@ -74,8 +78,8 @@ fn keep(
     Ok(())
 }
 
-/// The labels of the used nodes, in their order.
-pub fn used_labels(
+// The labels of the used nodes, in their order.
+pub(crate) fn used_labels(
     alloc: Global,
     labels: IndexSet<Label, RandomState>,
     used: &[bool],

@@ -1,7 +1,8 @@
 //! Terms with their hashes, as a table holds them and looks for them.
 ghost use Rattle.std.specs.Prelude.{◌≡◌};
 ghost use Rattle.std.specs.Hash as fed;
-ghost use Rattle.rdf_terms.specs.HashedTerm.{hashed, hashed_ref, hashed_of, entries_fed_alike, references_fed_alike, fed_as_entry};
+ghost use Rattle.rdf_terms.specs.HashedTerm.{hashed, hashed_ref, hashed_of};
+ghost use Rattle.rdf_terms.specs.FedAlike.{entries_fed_alike, references_fed_alike, fed_as_entry};
 ghost use Rattle.rdf_terms.specs.contracts.hashed_term.HashedTermPartialEq.TheImpl.{eq-value as eq_hashed};
 ghost use Rattle.rdf_terms.specs.contracts.hashed_term.HashedTermEq.TheImpl.Laws.{laws-law as hashed_law};
 
@@ -10,14 +11,14 @@ use crate::{Term, TermRef};
 use indexmap::Equivalent;
 use std::hash::{Hash, Hasher, RandomState};
 
-/// A term with its hash under the keys of its table.
+// A term with its hash under the keys of its table.
 #[derive(PartialEq, Eq, Drop)]
 pub(crate) struct HashedTerm {
     pub(crate) hash: u64,
     pub(crate) term: Term,
 }
 
-/// The same by reference.
+// The same by reference.
 #[derive(Clone, Copy, PartialEq, Eq)]
 pub(crate) struct HashedTermRef<'a> {
     hash: u64,

@@ -10,7 +10,7 @@ use std::{fmt, str};
 // they make four words.
 const INLINE_LEN: usize = 30;
 
-/// A short text in UTF-8, whose bytes lie in the value itself.
+// A short text in UTF-8, whose bytes lie in the value itself.
 #[derive(Drop)]
 pub(crate) struct InlineText {
     len: u8,
@@ -29,7 +29,7 @@ impl Model for InlineText {
 }
 
 impl InlineText {
-    /// A copy of the text, where it fits.
+    // A copy of the text, where it fits.
     #[inline]
     pub(crate) fn copy(text: &str) -> Option<Self>
         ensures fits { IsSome result ↔ (length text.now ≤ INLINE_LEN) }

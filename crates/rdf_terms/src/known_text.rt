@@ -3,7 +3,7 @@ ghost use Rattle.std.specs.Prelude.{◌≡◌, IfSome};
 
 use crate::xsd;
 
-/// The same text as a constant, where it is the IRI of a datatype that most literals have.
+// The same text as a constant, where it is the IRI of a datatype that most literals have.
 // Out of line, so that the copy of a short text stays small.
 #[inline(never)]
 pub(crate) fn known_text(text: &str) -> Option<&'static str>

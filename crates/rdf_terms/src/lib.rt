@@ -4,6 +4,7 @@
 pub use bytes::Bytes;
 pub use draft::Draft;
 pub use lexicon::Lexicon;
+pub use limits::{MOST_NUMBERS, MOST_QUADS};
 pub use memory::NoMemory;
 pub use node_list::NodeList;
 pub use pair_list::{Bijection, PairList};
@@ -23,6 +24,7 @@ mod inline_text;
 mod known_text;
 pub mod laws;
 mod lexicon;
+mod limits;
 mod lookup_hash;
 mod memory;
 mod node_list;

@@ -56,7 +56,7 @@ fn text_of_kind(kind: LiteralKindRef<'_>) -> &str
     }
 }
 
-/// The hash of the term under these keys. That of a node is its number, which no file chooses.
+// The hash of the term under these keys. That of a node is its number, which no file chooses.
 pub(crate) fn lookup_hash(keys: RandomState, term: TermRef<'_>) -> u64
     ensures { result ≡ lookup_hash keys (term_of term.entry) }
 {

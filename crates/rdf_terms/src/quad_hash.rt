@@ -1,9 +1,10 @@
 //! How a table hashes a quad.
 
 ghost use Rattle.std.specs.Prelude.{◌≡◌};
-ghost use Rattle.rdf_terms.specs.QuadHash.{graph_number, number_bytes, fed_quad, quads_fed_alike};
+ghost use Rattle.rdf_terms.specs.QuadHash.{graph_number, number_bytes, fed_quad};
+ghost use Rattle.rdf_terms.specs.FedAlike.{quads_fed_alike};
 
-use crate::Quad;
+use crate::{MOST_NUMBERS, Quad};
 use std::hash::{Hash, Hasher};
 
 // The number of the graph name. The default graph has the number that no term has.
@@ -12,7 +13,7 @@ fn graph_number(quad: &Quad) -> u32
 {
     match quad.g {
         Some(number) => number,
-        None => u32::MAX,
+        None => MOST_NUMBERS,
     }
 }
 

@@ -12,7 +12,7 @@ ghost use Rattle.rdf_terms.specs.declared.term.Term.TheVariants.{Blank};
 
 use crate::ends::{HashedEnds, KnownEnds, find_ends};
 use crate::hashed_term::{HashedTerm, HashedTermRef};
-use crate::{NoMemory, StatementRef, Term, TermRef};
+use crate::{MOST_NUMBERS, NoMemory, StatementRef, Term, TermRef};
 use indexmap::IndexSet;
 use std::alloc::Global;
 use std::hash::RandomState;
@@ -85,7 +85,7 @@ impl TermTable {
 
     /// The number of the term: the old one where it is there, else the next.
     pub fn intern(&mut self, term: Term) -> Result<u32, NoMemory>
-        requires { length self.old < 4294967295 }
+        requires { length self.old < MOST_NUMBERS }
         ensures ok { IfOk result (Interns self.old self.new term) }
         ensures err { OnErr result (self.new ≡ self.old) }
         ensures distinct { AreDistinct self.new }
@@ -96,7 +96,7 @@ impl TermTable {
 
     /// The same as `intern`, of a term that is copied only where it is new.
     pub fn intern_ref(&mut self, alloc: Global, term: TermRef<'_>) -> Result<u32, NoMemory>
-        requires { length self.old < 4294967295 }
+        requires { length self.old < MOST_NUMBERS }
         ensures ok { IfOk result (Interns self.old self.new (term_of term.entry)) }
         ensures err { OnErr result (self.new ≡ self.old) }
         ensures distinct { AreDistinct self.new }
@@ -153,7 +153,7 @@ impl TermTable {
         term: TermRef<'_>,
         known: Option<usize>,
     ) -> Result<u32, NoMemory>
-        requires room { length self.old < 4294967295 }
+        requires room { length self.old < MOST_NUMBERS }
         requires known { IfSome known (λ n. slice_get self.old n ≡ Some (term_of term)) }
         ensures ok { IfOk result (Interns self.old self.new (term_of term.entry)) }
         ensures err { OnErr result (self.new ≡ self.old) }

@@ -8,7 +8,7 @@ ghost use Rattle.rdf_terms.specs.contracts.term.LiteralPartialEq.TheImpl.{eq-val
 ghost use Rattle.rdf_terms.specs.contracts.term.LiteralKindPartialEq.TheImpl.{eq-value as eq_kind};
 ghost use Rattle.rdf_terms.specs.contracts.term.LabelEq.TheImpl.Laws.{laws-law as label_law};
 ghost use Rattle.rdf_terms.specs.contracts.term.LabelHash.TheImpl.Laws.{respects_eq-law as alike_labels};
-ghost use Rattle.rdf_terms.specs.ReferenceHash.{hash-label_of};
+ghost use Rattle.rdf_terms.specs.FedAlike.{hash-label_of};
 ghost use Rattle.std.proofs.Common.{◌∙◌};
 
 use crate::{Label, Literal, LiteralKind, NoMemory, Term, TermText};

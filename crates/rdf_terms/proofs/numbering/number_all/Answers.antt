@@ -21,7 +21,8 @@ number_terms-requires-clause-object c =
 pub loop-place-preserved : goal.loop-place-preserved
 loop-place-preserved c = record {
   numbers = rw c.in_ok-push.ensures.items (
-      subst (λ sts. NumbersAll c.args.terms.now sts (c.loop-place.numbered.items ++ c.in_ok-number_terms.field-0 ∷ []) c.number_terms.new.terms) (sym (map_more statement_of c.args.quads.now c.loop-place.place _ c.loop-place-test.true))
+      subst (λ sts. NumbersAll c.args.terms.now sts (c.loop-place.numbered.items ++ c.in_ok-number_terms.field-0 ∷ []) c.number_terms.new.terms)
+      (sym (map_more statement_of c.args.quads.now c.loop-place.place _ c.loop-place-test.true))
       (NumbersAll-push _ _ _ _ _ _ _ c.loop-place.invariant.numbers c.in_ok-number_terms.ensures.numbers c.in_ok-number_terms.ensures.extends c.in_ok-number_terms.ensures.distinct)
       );
   extends = extends-trans _ _ _ c.loop-place.invariant.extends c.in_ok-number_terms.ensures.extends;

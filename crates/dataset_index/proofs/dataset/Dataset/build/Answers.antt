@@ -1,6 +1,7 @@
 use Rattle.std.proofs.Common.{◌<◌, ◌≤◌, All, length, subst, sym}
 use Rattle.std.proofs.lemmas.List.Elements.{All-weaker}
 use Rattle.rdf_terms.specs.Document.{IsInRange}
+use Rattle.rdf_terms.specs.declared.limits.TheConstants.{MOST_QUADS}
 use Rattle.dataset_index.proofs.Building.{IsDocument-with_quads, quads_permuted, statements_permuted}
 use Rattle.dataset_index.proofs.dataset.Dataset.build.Goals as goal
 
@@ -12,7 +13,7 @@ in_order-requires-clause-subjects c =
     (All-weaker (IsInRange c.args.parsed.terms) (λ q. q.s < length c.args.parsed.terms) (λ q r. r.s) c.args.parsed.quads c.quads.ensures.document.draft.in_range)))
 
 pub in_order-requires-clause-bound : goal.in_order-requires-clause-bound
-in_order-requires-clause-bound c = subst (λ qs. length qs ≤ 1000000000) (sym c.quads.ensures.quads) c.quads.ensures.document.draft.quads_bound
+in_order-requires-clause-bound c = subst (λ qs. length qs ≤ MOST_QUADS) (sym c.quads.ensures.quads) c.quads.ensures.document.draft.quads_bound
 
 pub without_nodes-requires-clause-document : goal.without_nodes-requires-clause-document
 without_nodes-requires-clause-document c = IsDocument-with_quads c.args.parsed _ _ c.quads.ensures.quads c.in_ok-quads.ensures.permutes c.into_lexicon-lexicon.result c.into_lexicon-lexicon.ensures c.quads.ensures.document

@@ -2,6 +2,7 @@ use Rattle.std.proofs.Common.{◌≡◌, ◌<◌, ◌≤◌, Some, All, map, len
 use Rattle.rdf_terms.specs.Lists.{numbers_below}
 use Rattle.rdf_terms.specs.Document.{IsInRange, statement}
 use Rattle.rdf_terms.specs.declared.term.Term.TheVariants.{Blank}
+use Rattle.rdf_terms.specs.declared.limits.TheConstants.{MOST_QUADS}
 use Rattle.dataset_index.specs.Mentions.{noted_places, NotesPlaces}
 use Rattle.dataset_index.specs.NodeTerms.{NumbersNodes}
 use Rattle.dataset_index.specs.HeldNodes.{AreNodesBelow}
@@ -23,7 +24,7 @@ note_all-requires-clause-in_range c =
     (subst (All (IsInRange c.args.lexicon.terms)) (sym c.as_slice.ensures.value) c.requires.document.draft.in_range)
 
 pub note_all-requires-clause-bound : goal.note_all-requires-clause-bound
-note_all-requires-clause-bound c = subst (λ qs. length qs ≤ 1000000000) (sym c.as_slice.ensures.value) c.requires.document.draft.quads_bound
+note_all-requires-clause-bound c = subst (λ qs. length qs ≤ MOST_QUADS) (sym c.as_slice.ensures.value) c.requires.document.draft.quads_bound
 
 pub build-requires-clause-nodes : goal.build-requires-clause-nodes
 build-requires-clause-nodes c =

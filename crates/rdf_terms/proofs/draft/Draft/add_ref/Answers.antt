@@ -15,17 +15,21 @@ number_terms-requires-clause-object c = known_now _ _ _ (ap (λ (k : KnownEnds).
 
 pub invariant_of-self-in-Ok-insert : goal.invariant_of-self-in-Ok-insert
 invariant_of-self-in-Ok-insert c =
-    (Added-adds _ _ _ _ _ _ _ c.self.invariant c.number_terms.ensures.extends c.in-Ok.ensures.distinct c.in-Ok.ensures.numbers (rw (← c.self.view_is) at c.requires.valid) (rw (← c.self.view_is) at c.requires.room)
+    (Added-adds _ _ _ _ _ _ _ c.self.invariant c.number_terms.ensures.extends c.in-Ok.ensures.distinct c.in-Ok.ensures.numbers (rw (← c.self.view_is) at c.requires.valid)
+    (rw (← c.self.view_is) at c.requires.room)
     (inserted eq-value.it quads_tell _ _ c.in-Ok.quad c.in-Ok-insert.ensures.keys)).draft
 
 pub returns-clause-adds : goal.returns-clause-adds
 returns-clause-adds c =
-    rw (← c.self.view_is) (Added-adds _ _ _ _ _ _ _ c.self.invariant c.number_terms.ensures.extends c.in-Ok.ensures.distinct c.in-Ok.ensures.numbers (rw (← c.self.view_is) at c.requires.valid) (rw (← c.self.view_is) at c.requires.room)
+    rw (← c.self.view_is)
+    (Added-adds _ _ _ _ _ _ _ c.self.invariant c.number_terms.ensures.extends c.in-Ok.ensures.distinct c.in-Ok.ensures.numbers (rw (← c.self.view_is) at c.requires.valid)
+    (rw (← c.self.view_is) at c.requires.room)
     (inserted eq-value.it quads_tell _ _ c.in-Ok.quad c.in-Ok-insert.ensures.keys)).adds
 
 pub returns-clause-new : goal.returns-clause-new
 returns-clause-new c =
     rw (← c.self.view_is) (told_new _ _ _ _ _ _ _
-    (Added-adds _ _ _ _ _ _ _ c.self.invariant c.number_terms.ensures.extends c.in-Ok.ensures.distinct c.in-Ok.ensures.numbers (rw (← c.self.view_is) at c.requires.valid) (rw (← c.self.view_is) at c.requires.room)
+    (Added-adds _ _ _ _ _ _ _ c.self.invariant c.number_terms.ensures.extends c.in-Ok.ensures.distinct c.in-Ok.ensures.numbers (rw (← c.self.view_is) at c.requires.valid)
+    (rw (← c.self.view_is) at c.requires.room)
     (inserted eq-value.it quads_tell _ _ c.in-Ok.quad c.in-Ok-insert.ensures.keys))
     _ _ c.in-Ok-insert.ensures.added (present eq-value.it quads_tell c.in-Ok.quad c.self.inside.quads.keys) (absent eq-value.it quads_tell c.in-Ok.quad c.self.inside.quads.keys))

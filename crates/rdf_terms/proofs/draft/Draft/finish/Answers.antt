@@ -8,17 +8,24 @@ used_nodes-requires c = λ n i. let low = blank_low _ _ _ c.self.invariant n i i
 pub new-requires : goal.new-requires
 new-requires c =
     let len : length c.in_ok-used.used.items ≡ length c.self.inside.labels.keys = omega (arith, c.in_ok-used.ensures.len, c.len.ensures.len) in
-    record { draft = c.self.invariant; used = all_used _ _ _ c.self.invariant c.in_ok-used.used.items len c.in_ok-used.ensures.used (rw c.deref.ensures.value at (c.are_all_used.ensures.0 c.if-are_all_used.true)) }
+    record {
+      draft = c.self.invariant;
+      used = all_used _ _ _ c.self.invariant c.in_ok-used.used.items len c.in_ok-used.ensures.used
+          (rw c.deref.ensures.value at (c.are_all_used.ensures.0 c.if-are_all_used.true));
+    }
 
 pub returns-then-are_all_used-clause-finishes : goal.returns-then-are_all_used-clause-finishes
 returns-then-are_all_used-clause-finishes c =
     let len : length c.in_ok-used.used.items ≡ length c.self.inside.labels.keys = omega (arith, c.in_ok-used.ensures.len, c.len.ensures.len) in
-    rw (← c.self.view_is, c.new.ensures) (Finishes-all _ _ _ c.self.invariant (all_used _ _ _ c.self.invariant c.in_ok-used.used.items len c.in_ok-used.ensures.used (rw c.deref.ensures.value at (c.are_all_used.ensures.0 c.if-are_all_used.true))))
+    rw (← c.self.view_is, c.new.ensures)
+    (Finishes-all _ _ _ c.self.invariant
+    (all_used _ _ _ c.self.invariant c.in_ok-used.used.items len c.in_ok-used.ensures.used (rw c.deref.ensures.value at (c.are_all_used.ensures.0 c.if-are_all_used.true))))
 
 pub renumbered-requires-clause-known : goal.renumbered-requires-clause-known
 renumbered-requires-clause-known c =
     let len : length c.in_ok-used.used.items ≡ length c.self.inside.labels.keys = omega (arith, c.in_ok-used.ensures.len, c.len.ensures.len) in
-    rw c.deref-3.ensures.value (known _ _ _ c.self.invariant c.in_ok-used.used.items len c.in_ok-used.ensures.used c.in_ok-numbers.numbers.items (rw c.deref-2.ensures.value at c.in_ok-numbers.ensures))
+    rw c.deref-3.ensures.value
+    (known _ _ _ c.self.invariant c.in_ok-used.used.items len c.in_ok-used.ensures.used c.in_ok-numbers.numbers.items (rw c.deref-2.ensures.value at c.in_ok-numbers.ensures))
 
 pub renumbered-requires-clause-distinct : goal.renumbered-requires-clause-distinct
 renumbered-requires-clause-distinct c =

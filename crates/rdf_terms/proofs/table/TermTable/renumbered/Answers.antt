@@ -18,14 +18,16 @@ renumbered_term-requires c = λ n e. c.requires.known n (c.loop-entry.invariant.
 pub intern-requires : goal.intern-requires
 intern-requires c =
     let f = relabel_term (number_in c.args.numbers.now) in
-    let shorter = front_shorter (map f c.args.self) c.loop-entry.fresh _ _ c.loop-entry.fresh (f c.in-Some.entry.term) c.loop-entry.invariant.made (ap (λ hs. map f (terms_of hs)) c.in-Some.ensures.steps) in
+    let shorter = front_shorter (map f c.args.self) c.loop-entry.fresh _ _ c.loop-entry.fresh (f c.in-Some.entry.term) c.loop-entry.invariant.made
+    (ap (λ hs. map f (terms_of hs)) c.in-Some.ensures.steps) in
     omega (arith, shorter, length-map c.args.self f, ap length c.self.view_is, c.self.invariant.0)
 
 pub loop-entry-preserved : goal.loop-entry-preserved
 loop-entry-preserved c =
     let f = relabel_term (number_in c.args.numbers.now) in
     record {
-      made = moved (map f c.args.self) c.loop-entry.fresh _ _ c.intern.new.self (f c.in-Some.entry.term) c.requires.distinct c.loop-entry.invariant.made (ap (λ hs. map f (terms_of hs)) c.in-Some.ensures.steps)
+      made = moved (map f c.args.self) c.loop-entry.fresh _ _ c.intern.new.self (f c.in-Some.entry.term) c.requires.distinct c.loop-entry.invariant.made
+          (ap (λ hs. map f (terms_of hs)) c.in-Some.ensures.steps)
           (rw c.renumbered_term.ensures at c.in_ok-intern.ensures.ok.adds);
       known = λ t h. c.loop-entry.invariant.known t (subst (In t) (sym (ap terms_of c.in-Some.ensures.steps)) (inr h));
     }
