@@ -1,5 +1,5 @@
--- The lines of a text, by which a fault is told. A line ends at LF, at CR LF, or at a CR that no LF follows (RDF 1.1 TriG, section 4.1, has both characters as white space), inside strings and comments too.
-use Rattle.std.specs.Prelude.{ℕ, suc, Bool, false, [], ◌∷◌, ◌==◌, take, if◌then◌else◌}
+-- The lines of a text, by which a fault is told. A line ends at LF, at CR LF, or at a CR that no LF follows, in strings and comments too.
+use Rattle.std.specs.Prelude.{ℕ, suc, Bool, false, not, ◌&&◌, ◌||◌, [], ◌∷◌, ◌==◌, take, if◌then◌else◌}
 use Rattle.rdf_terms.specs.Lists.{Text}
 
 abbrev pub begins_with_lf : Text → Bool
@@ -17,3 +17,7 @@ line_ends (c ∷ cs) =
 -- the line of what begins at the place, counted from 1: one more than the line ends before it
 unfoldable pub line_at : Text → ℕ → ℕ
 line_at text place = suc (line_ends (take place text))
+
+-- a CR ends a line, and so does an LF that no CR stands before
+abbrev pub ends_line : Bool → ℕ → Bool
+ends_line after_cr c = c == 13 || (c == 10 && not after_cr)

@@ -60,3 +60,8 @@ pub record IsDraftOf (text : Text) (base : Option Text) (draft : Document) : Typ
 abbrev pub fault_at : Missing → ℕ → TrigFault
 fault_at Prefix line = UnknownPrefix line
 fault_at Base line = NoBase line
+
+-- where the last token begins that was told, once this one is: the builder tells none behind a use without a definition
+abbrev pub place_told : Option Missing → ℕ → ℕ → ℕ
+place_told None last start = start
+place_told (Some why) last start = last

@@ -41,7 +41,7 @@ HasNoneBehind text tokens = HasNoTokenAt (is_behind_string false tokens) text (p
 
 -- the end of the text is none of these
 abbrev pub HaveNoEnd : List Token → Type 0
-HaveNoEnd tokens = All (λ token. token.kind ≢ End) tokens
+HaveNoEnd tokens = All (λ (token : Token). token.kind ≢ End) tokens
 
 -- The tokens of the text: all of it is cut into them, and its end is the last one.
 pub record AreTokens (text : Text) (tokens : List Token) : Type 0 where
@@ -55,7 +55,7 @@ pub record AreTokens (text : Text) (tokens : List Token) : Type 0 where
 -- ---- by the grammar
 
 abbrev pub kinds : List Token → List Kind
-kinds tokens = map (λ token. token.kind) tokens
+kinds tokens = map (λ (token : Token). token.kind) tokens
 
 -- the tokens are those of a document
 abbrev pub AreSentence : List Token → Type 0

@@ -7,7 +7,7 @@ ghost use Rattle.trig_grammar.specs.Stack.{Fits};
 ghost use Rattle.trig_builder.specs.Building.{IsReady, IsWhole};
 ghost use Rattle.trig_reader.specs.Tokens.{IsNextBehind, HaveNoEnd, AreTokens};
 ghost use Rattle.trig_reader.specs.Document.{IsCauseOf};
-ghost use Rattle.trig_reader.specs.Reading.{IsCut, HasTold, HasTaken, IsDraftOf, fault_at};
+ghost use Rattle.trig_reader.specs.Reading.{IsCut, HasTold, HasTaken, IsDraftOf, fault_at, place_told};
 
 use crate::TrigFault;
 use crate::line::line_at;
@@ -28,6 +28,17 @@ pub(crate) struct Reading<'a> {
     last_told: usize,
 }
 
+// Where the last token begins that was told, once the one that begins here is.
+fn place_told(missing: Option<Missing>, last: usize, start: usize) -> usize
+    ensures { result ≡ place_told missing last start }
+{
+    match missing {
+        None => start,
+        Some(_) => last,
+    }
+}
+
+// The fault of a use in this line that has no definition.
 fn undefined(missing: Missing, line: u64) -> TrigFault
     ensures { result ≡ fault_at missing line }
 {
@@ -62,9 +73,7 @@ impl<'a> Reading<'a> {
         ensures told { OnOk result ((base : Option Text) (tokens : List TokenOf) → HasTold text.now base tokens self.old → HasTold text.now base (tokens ++ token ∷ []) self.new) }
         ensures parser { self.new.parser ≡ self.old.parser }
     {
-        if self.builder.missing().is_none() {
-            self.last_told = token.start;
-        }
+        self.last_told = place_told(self.builder.missing(), self.last_told, token.start);
         let leaf = leaf_of(alloc, token.kind, &text[token.start..token.end])?;
         self.builder.step(leaf)
     }
