@@ -25,7 +25,7 @@ use Rattle.trig_builder.specs.declared.builder.Missing.TheVariants.{Prefix, Base
 use Rattle.trig_reader.specs.Lines.{line_at}
 use Rattle.trig_reader.specs.Tokens.{BeginsWith, IsNextBehind, HasNoneBehind, HaveNoEnd, AreTokens, kinds, place_behind, AreSentence, BeginDocument}
 use Rattle.trig_reader.specs.Document.{AreLeaves, IsFirstUndefined, IsUndefined, IsBad, IsCauseOf}
-use Rattle.trig_reader.specs.Reading.{IsCut, IsUseAt, HasTold, HasTaken, IsDraftOf, fault_at, place_told}
+use Rattle.trig_reader.specs.Reading.{IsCut, IsUseAt, HasTold, HasTaken, HasTakenAll, IsDraftOf, fault_at, place_told}
 use Rattle.trig_reader.specs.declared.reading.Reading.{Reading}
 use Rattle.trig_reader.specs.declared.fault.TrigFault.TheVariants.{BadTrig}
 use Rattle.trig_reader.proofs.OneLeaf.{push_leaf}
@@ -83,31 +83,45 @@ module _ (text : Text) (base : Option Text) (tokens : List Token) (token : Token
   first_use (Some Prefix) place is old why now = first_before why NoPrefix place old (sym is) now
   first_use (Some Base) place is old why now = first_before why HasNoBase place old (sym is) now
 
-pub told_more : (text : Text) (base : Option Text) (tokens : List Token) (token : Token) (leaf : Leaf) (missing : Option Missing) (old new : Reading) → IsLeaf text token leaf → IsReady new.builder
+pub told_more : (text : Text) (base : Option Text) (tokens : List Token) (token : Token) (leaf : Leaf) (missing : Option Missing) (old new : Reading) → IsLeaf text token leaf
     → ((s : State) → Builds old.builder s → Builds new.builder (step s leaf)) → ((s : State) → Builds old.builder s → undefined_of missing ≡ s.undefined)
     → new.last_told ≡ place_told missing old.last_told token.start → HasTold text base tokens old → HasTold text base (tokens ++ token ∷ []) new
-told_more text base tokens token leaf missing old new here ready builds is place told = record {
+told_more text base tokens token leaf missing old new here builds is place told = record {
   leaves = told.leaves ++ leaf ∷ [];
   are_leaves = push_leaf text tokens told.leaves token leaf told.are_leaves here;
-  ready = ready;
   builds = subst (Builds new.builder) (sym (says-push base told.leaves leaf)) (builds (says base told.leaves) told.builds);
   use_at = λ why now. subst (IsUseAt text base (tokens ++ token ∷ []) why) (sym place)
       (first_use text base tokens token leaf here told.leaves told.are_leaves missing old.last_told (is (says base told.leaves) told.builds) told.use_at why now);
 }
 
--- ---- the token is taken, or none goes on with it
+-- ---- no token was taken
 
-pub taken_more : (text : Text) (base : Option Text) (tokens : List Token) (token : Token) (old new : Reading) → HasTaken text base tokens old → IsNextBehind text tokens token
-    → ((front : List Kind) → IsBehind front old.parser → IsBehind (front ++ token.kind ∷ []) new.parser) → HasTold text base (tokens ++ token ∷ []) new → HasTaken text base (tokens ++ token ∷ []) new
-taken_more text base tokens token old new taken next goes_on told = record {
-  begins = push_token text 0 false tokens token taken.begins next;
-  behind = subst (λ ks. IsBehind ks new.parser) (sym (kinds-append tokens (token ∷ []))) (goes_on (kinds tokens) taken.behind);
-  told = told;
+no_use : (base : Option Text) (why : Undefined) → (begin base).undefined ≡ Some why → ⊥
+no_use base why some = let none : None ≡ Some why = some in cc
+
+pub nothing_taken : (text : Text) (reading : Reading) → IsBehind [] reading.parser → IsReady reading.builder → HasTaken text reading [] reading
+nothing_taken text reading behind ready = record {
+  begins = tt;
+  behind = behind;
+  ready = ready;
+  told = λ base builds. record { leaves = []; are_leaves = tt; builds = builds; use_at = λ why some. absurd (no_use base why some) };
 }
 
-pub bad_token : (text : Text) (base : Option Text) (tokens : List Token) (token : Token) (old : Reading) (line : ℕ) → IsUtf8 text → HasTaken text base tokens old → HaveNoEnd tokens → IsNextBehind text tokens token
-    → ((front : List Kind) → IsBehind front old.parser → ¬ (BeginsSentence (front ++ token.kind ∷ []))) → line ≡ line_at text token.start → IsCauseOf text base (BadTrig line)
-bad_token text base tokens token old line utf8 taken no_end next none line_is = record {
+-- ---- the token is taken, or none goes on with it
+
+pub taken_more : (text : Text) (first : Reading) (tokens : List Token) (token : Token) (old new : Reading) → HasTaken text first tokens old → IsNextBehind text tokens token
+    → ((front : List Kind) → IsBehind front old.parser → IsBehind (front ++ token.kind ∷ []) new.parser) → IsReady new.builder
+    → ((base : Option Text) → HasTold text base tokens old → HasTold text base (tokens ++ token ∷ []) new) → HasTaken text first (tokens ++ token ∷ []) new
+taken_more text first tokens token old new taken next goes_on ready told = record {
+  begins = push_token text 0 false tokens token taken.begins next;
+  behind = subst (λ ks. IsBehind ks new.parser) (sym (kinds-append tokens (token ∷ []))) (goes_on (kinds tokens) taken.behind);
+  ready = ready;
+  told = λ base builds. told base (taken.told base builds);
+}
+
+pub bad_token : (text : Text) (base : Option Text) (first : Reading) (tokens : List Token) (token : Token) (old : Reading) (line : ℕ) → IsUtf8 text → HasTaken text first tokens old → HaveNoEnd tokens
+    → IsNextBehind text tokens token → ((front : List Kind) → IsBehind front old.parser → ¬ (BeginsSentence (front ++ token.kind ∷ []))) → line ≡ line_at text token.start → IsCauseOf text base (BadTrig line)
+bad_token text base first tokens token old line utf8 taken no_end next none line_is = record {
   utf8 = utf8;
   front = tokens;
   start = token.start;
@@ -118,9 +132,9 @@ bad_token text base tokens token old line utf8 taken no_end next none line_is = 
   line_is = line_is;
 }
 
-pub bad_place : (text : Text) (base : Option Text) (tokens : List Token) (old : Reading) (start line : ℕ) → IsUtf8 text → HasTaken text base tokens old → HaveNoEnd tokens → HasNoneBehind text tokens
-    → IsTokenStart text (place_behind 0 tokens) start → line ≡ line_at text start → IsCauseOf text base (BadTrig line)
-bad_place text base tokens old start line utf8 taken no_end none at line_is = record {
+pub bad_place : (text : Text) (base : Option Text) (first : Reading) (tokens : List Token) (old : Reading) (start line : ℕ) → IsUtf8 text → HasTaken text first tokens old → HaveNoEnd tokens
+    → HasNoneBehind text tokens → IsTokenStart text (place_behind 0 tokens) start → line ≡ line_at text start → IsCauseOf text base (BadTrig line)
+bad_place text base first tokens old start line utf8 taken no_end none at line_is = record {
   utf8 = utf8;
   front = tokens;
   start = start;
@@ -133,35 +147,45 @@ bad_place text base tokens old start line utf8 taken no_end none at line_is = re
 
 -- ---- all tokens were taken
 
-pub missing_cause : (text : Text) (base : Option Text) (tokens : List Token) (reading : Reading) (missing : Missing) (line : ℕ) → IsUtf8 text → HasTaken text base tokens reading → AreTokens text tokens
+pub taken_all : (text : Text) (first : Reading) (tokens : List Token) (last : Token) (reading : Reading) → HasTaken text first (tokens ++ last ∷ []) reading → HaveNoEnd tokens → last.kind ≡ End → HasTakenAll text first reading
+taken_all text first tokens last reading taken no_end end =
+    let are : AreTokens text (tokens ++ last ∷ []) = record { front = tokens; last = last; are = refl; begins = taken.begins; goes_on = no_end; ends = end } in
+    record { tokens = tokens ++ last ∷ []; are_tokens = are; sentence = begun_tokens_are text (tokens ++ last ∷ []) are taken.behind.begins; told = taken.told }
+
+pub missing_cause : (text : Text) (first : Reading) (base : Option Text) (reading : Reading) (missing : Missing) (line : ℕ) → IsUtf8 text → HasTakenAll text first reading → Builds first.builder (begin base)
     → ((s : State) → Builds reading.builder s → undefined_of (Some missing) ≡ s.undefined) → line ≡ line_at text reading.last_told → IsCauseOf text base (fault_at missing line)
-missing_cause text base tokens reading missing line utf8 taken are is line_is = by missing (is (says base taken.told.leaves) taken.told.builds)
+missing_cause text first base reading missing line utf8 all begins is line_is = by missing (is (says base told.leaves) told.builds)
   where
-    use_in : (why : Undefined) → (says base taken.told.leaves).undefined ≡ Some why → IsUndefined text base why line
+    told : HasTold text base all.tokens reading
+    told = all.told base begins
+
+    use_in : (why : Undefined) → (says base told.leaves).undefined ≡ Some why → IsUndefined text base why line
     use_in why now =
-        let at = taken.told.use_at why now in
+        let at = told.use_at why now in
         record {
           utf8 = utf8;
-          tokens = tokens;
+          tokens = all.tokens;
           use_at = at.use_at;
-          are_tokens = are;
-          sentence = begun_tokens_are text tokens are taken.behind.begins;
+          are_tokens = all.are_tokens;
+          sentence = all.sentence;
           first = at.first;
           line_is = line_is ∙ ap (line_at text) at.place_is;
         }
 
-    by : (m : Missing) → undefined_of (Some m) ≡ (says base taken.told.leaves).undefined → IsCauseOf text base (fault_at m line)
+    by : (m : Missing) → undefined_of (Some m) ≡ (says base told.leaves).undefined → IsCauseOf text base (fault_at m line)
     by Prefix e = use_in NoPrefix (sym e)
     by Base e = use_in HasNoBase (sym e)
 
-pub whole_draft : (text : Text) (base : Option Text) (tokens : List Token) (reading : Reading) (missing : Option Missing) (draft : Document) → HasTaken text base tokens reading → AreTokens text tokens
+pub whole_draft : (text : Text) (first : Reading) (base : Option Text) (reading : Reading) (missing : Option Missing) (draft : Document) → HasTakenAll text first reading → Builds first.builder (begin base)
     → missing ≡ None → ((s : State) → Builds reading.builder s → undefined_of missing ≡ s.undefined) → ((s : State) → Builds reading.builder s → Drafts draft s.told) → IsDraftOf text base draft
-whole_draft text base tokens reading missing draft taken are none is drafts = record {
-  tokens = tokens;
-  leaves = taken.told.leaves;
-  are_tokens = are;
-  sentence = begun_tokens_are text tokens are taken.behind.begins;
-  are_leaves = taken.told.are_leaves;
-  defined = sym (is (says base taken.told.leaves) taken.told.builds) ∙ ap undefined_of none;
-  drafts = drafts (says base taken.told.leaves) taken.told.builds;
-}
+whole_draft text first base reading missing draft all begins none is drafts =
+    let told = all.told base begins in
+    record {
+      tokens = all.tokens;
+      leaves = told.leaves;
+      are_tokens = all.are_tokens;
+      sentence = all.sentence;
+      are_leaves = told.are_leaves;
+      defined = sym (is (says base told.leaves) told.builds) ∙ ap undefined_of none;
+      drafts = drafts (says base told.leaves) told.builds;
+    }
