@@ -1,14 +1,14 @@
 //! A text while its tokens are taken.
-ghost use Rattle.std.specs.Prelude.{◌≡◌, ◌++◌, ◌∷◌, [], ℕ, List, Option, IfSome, IfOk, IfErr, OnOk};
+ghost use Rattle.std.specs.Prelude.{◌≡◌, ◌++◌, ◌∷◌, ◌↔◌, [], List, Option, IsTrue, IfSome, IfOk, IfErr, OnOk};
 ghost use Rattle.std.specs.Option.{option_copied};
 ghost use Rattle.rdf_terms.specs.Lists.{Text};
+ghost use Rattle.trig_lexer.specs.declared.kind.Kind.TheVariants.{End};
 ghost use Rattle.trig_lexer.specs.declared.token.Token.{Token as TokenOf};
-ghost use Rattle.trig_grammar.specs.Stack.{Fits};
 ghost use Rattle.trig_terms.specs.Meaning.{begin};
 ghost use Rattle.trig_builder.specs.Building.{IsReady, IsWhole, Builds};
-ghost use Rattle.trig_reader.specs.Tokens.{IsNextBehind, HaveNoEnd};
+ghost use Rattle.trig_reader.specs.Tokens.{is_string, IsNextBehind};
 ghost use Rattle.trig_reader.specs.Document.{IsCauseOf};
-ghost use Rattle.trig_reader.specs.Reading.{IsCut, HasTold, HasTaken, HasTakenAll, IsDraftOf, fault_at, place_told};
+ghost use Rattle.trig_reader.specs.Reading.{IsCut, IsAtNext, HasTold, HasTaken, HasTakenAll, IsDraftOf, fault_at, place_told};
 ghost use Rattle.trig_reader.specs.declared.reading.Reading.{Reading as ReadingOf};
 
 use crate::TrigFault;
@@ -28,6 +28,18 @@ pub(crate) struct Reading<'a> {
     builder: Builder<'a>,
     // Where the last token begins before which each use had its definition.
     last_told: usize,
+}
+
+fn is_end(kind: Kind) -> bool
+    ensures { IsTrue result ↔ (kind ≡ End) }
+{
+    matches!(kind, Kind::End)
+}
+
+fn is_string(kind: Kind) -> bool
+    ensures { result ≡ is_string kind }
+{
+    matches!(kind, Kind::Quoted)
 }
 
 // Where the last token begins that was told, once the one that begins here is.
@@ -74,7 +86,7 @@ impl<'a> Reading<'a> {
         requires ready { IsReady self.old.builder }
         requires token { IsCut text.now token }
         ensures ready { OnOk result (IsReady self.new.builder) }
-        ensures told { OnOk result ((base : Option Text) (tokens : List TokenOf) → HasTold text.now base tokens self.old → HasTold text.now base (tokens ++ token ∷ []) self.new) }
+        ensures told { OnOk result ((base : Option Text) (tokens : List TokenOf) → HasTold text.now base tokens self.old.builder self.old.last_told → HasTold text.now base (tokens ++ token ∷ []) self.new.builder self.new.last_told) }
         ensures parser { self.new.parser ≡ self.old.parser }
     {
         self.last_told = place_told(self.builder.missing(), self.last_told, token.start);
@@ -84,11 +96,9 @@ impl<'a> Reading<'a> {
 
     // Takes the next token. Where no document goes on with it, the text is none.
     fn take(&mut self, alloc: Global, text: &'a str, token: Token) -> Result<(), TrigFault>
-        requires fits { Fits self.old.parser }
-        requires ready { IsReady self.old.builder }
-        requires token { IsCut text.now token }
+        requires { IsAtNext text.now self.old token }
         ensures taken { OnOk result ((first : ReadingOf) (tokens : List TokenOf) → HasTaken text.now first tokens self.old → IsNextBehind text.now tokens token → HasTaken text.now first (tokens ++ token ∷ []) self.new) }
-        ensures err { IfErr result (λ fault. (first : ReadingOf) (base : Option Text) (tokens : List TokenOf) → HasTaken text.now first tokens self.old → HaveNoEnd tokens → IsNextBehind text.now tokens token → IsCauseOf text.now base fault) }
+        ensures err { IfErr result (λ fault. (base : Option Text) → IsCauseOf text.now base fault) }
     {
         if !self.parser.take(token.kind)? {
             let line = line_at(text.as_bytes(), token.start);
@@ -112,11 +122,11 @@ impl<'a> Reading<'a> {
                 return Err(TrigFault::BadTrig { line });
             };
             self.take(alloc, text, token)?;
-            if token.kind == Kind::End {
+            if is_end(token.kind) {
                 return Ok(());
             }
             place = token.end;
-            after_string = token.kind == Kind::Quoted;
+            after_string = is_string(token.kind);
         }
     }
 
