@@ -1,9 +1,8 @@
 -- What taking one token does, and what is known once the last one was taken.
-use Rattle.std.proofs.Common.{◌≡◌, ◌≢◌, ℕ, ◌+◌, ◌-◌, ◌≤◌, Bool, true, false, List, [], ◌∷◌, ◌++◌, Option, Some, None, All, length, take, drop, refl, sym, ap, subst, ◌∙◌, arith, inl, inr, append_assoc}
+use Rattle.std.proofs.Common.{◌≡◌, ◌≢◌, ℕ, ◌-◌, Bool, false, List, [], ◌∷◌, ◌++◌, Option, Some, None, length, take, drop, refl, sym, ap, subst, ◌∙◌, arith, inl, inr}
 use Rattle.std.specs.Prelude.{IsUtf8, encode_utf8_all}
 use Rattle.std.specs.Str.{IsCharBoundary}
 use Rattle.std.proofs.lemmas.List.{length-append, length-drop, take_at}
-use Rattle.std.proofs.lemmas.List.Elements.{All-nil, All-cons, All-head, All-tail}
 use Rattle.std.proofs.lemmas.Str.{encodes-append}
 use Rattle.rdf_terms.specs.Lists.{Text}
 use Rattle.rdf_terms.specs.Document.{Document}
@@ -11,7 +10,6 @@ use Rattle.terminals.specs.Terminal.{Characters}
 use Rattle.trig_lexer.specs.declared.kind.Kind.{Kind}
 use Rattle.trig_lexer.specs.declared.kind.Kind.TheVariants.{End}
 use Rattle.trig_lexer.specs.declared.token.Token.{Token}
-use Rattle.trig_lexer.specs.Fronts.{TextReads}
 use Rattle.trig_lexer.specs.Tokens.{IsToken, IsNext, IsTokenAt, IsTokenStart, HasNoTokenAt}
 use Rattle.trig_grammar.specs.Grammar.{BeginsSentence}
 use Rattle.trig_grammar.specs.Stack.{IsBehind}
@@ -25,8 +23,8 @@ use Rattle.trig_builder.specs.declared.builder.Builder.{Builder}
 use Rattle.trig_builder.specs.declared.builder.Missing.{Missing}
 use Rattle.trig_builder.specs.declared.builder.Missing.TheVariants.{Prefix, Base}
 use Rattle.trig_reader.specs.Lines.{line_at}
-use Rattle.trig_reader.specs.Tokens.{BeginsWith, IsNextBehind, HasNoneBehind, HaveNoEnd, AreTokens, kinds, place_behind, is_behind_string, AreSentence, BeginDocument}
-use Rattle.trig_reader.specs.Document.{AreLeaves, IsFirstUndefined, IsUndefined, IsBad, IsCauseOf}
+use Rattle.trig_reader.specs.Tokens.{IsNextBehind, HasNoneBehind, HaveNoEnd, AreTokens, kinds, place_behind, is_behind_string}
+use Rattle.trig_reader.specs.Document.{AreLeaves, IsUndefined, IsCauseOf}
 use Rattle.trig_reader.specs.Reading.{IsCut, IsUseAt, HasTold, HasTaken, HasTakenAll, IsDraftOf, fault_at, place_told}
 use Rattle.trig_reader.specs.declared.reading.Reading.{Reading}
 use Rattle.trig_reader.specs.declared.fault.TrigFault.TheVariants.{BadTrig}
@@ -203,9 +201,3 @@ pub none_at : (text : Text) (tokens : List Token) (place : ℕ) (after_string : 
     → HasNoTokenAt after_string text place → HasNoneBehind text tokens
 none_at text tokens place after_string at after none =
     subst (λ (a : Bool). HasNoTokenAt a text (place_behind 0 tokens)) after (subst (λ (p : ℕ). HasNoTokenAt after_string text p) at none)
-
-pub no_end_more : (tokens : List Token) (token : Token) → HaveNoEnd tokens → token.kind ≢ End → HaveNoEnd (tokens ++ token ∷ [])
-no_end_more [] token no_end some = All-cons (λ (t : Token). t.kind ≢ End) token [] some (All-nil (λ (t : Token). t.kind ≢ End))
-no_end_more (t ∷ tokens) token no_end some =
-    All-cons (λ (t : Token). t.kind ≢ End) t (tokens ++ token ∷ []) (All-head (λ (t : Token). t.kind ≢ End) t tokens no_end)
-    (no_end_more tokens token (All-tail (λ (t : Token). t.kind ≢ End) t tokens no_end) some)

@@ -1,4 +1,4 @@
-use Rattle.std.proofs.Common.{drop, arith}
+use Rattle.std.proofs.Common.{arith}
 use Rattle.trig_reader.proofs.Lines.{ends_are, counted_more}
 use Rattle.trig_reader.proofs.line.line_behind.Goals as goal
 

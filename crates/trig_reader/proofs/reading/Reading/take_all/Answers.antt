@@ -1,6 +1,6 @@
-use Rattle.std.proofs.Common.{◌≡◌, ◌≢◌, ◌∷◌, ◌++◌, [], false, refl, ap, sym, ◌∙◌, arith}
+use Rattle.std.proofs.Common.{◌≢◌, ◌∷◌, ◌++◌, [], false, refl, ap, sym, ◌∙◌, arith}
 use Rattle.std.proofs.lemmas.Bool.{false≢true}
-use Rattle.std.proofs.lemmas.List.Elements.{All-nil}
+use Rattle.std.proofs.lemmas.List.Elements.{All-nil, All-push}
 use Rattle.std.proofs.lemmas.Result.{err_from_is_err_and}
 use Rattle.std.proofs.lemmas.Str.{IsCharBoundary-start}
 use Rattle.rdf_terms.specs.Lists.{Text}
@@ -8,7 +8,7 @@ use Rattle.trig_lexer.specs.declared.kind.Kind.TheVariants.{End}
 use Rattle.trig_lexer.specs.declared.token.Token.{Token}
 use Rattle.trig_reader.specs.Lines.{line_at}
 use Rattle.trig_reader.proofs.TokenLists.{place_behind-push, is_behind_string-push}
-use Rattle.trig_reader.proofs.Taking.{cut_out, bad_place, taken_all, next_at, none_at, no_end_more}
+use Rattle.trig_reader.proofs.Taking.{cut_out, bad_place, taken_all, next_at, none_at}
 use Rattle.trig_reader.proofs.reading.Reading.take_all.Goals as goal
 
 pub loop-token-init : goal.loop-token-init
@@ -58,7 +58,7 @@ loop-token-preserved c =
     record {
       tokens = before.tokens ++ c.in-Some.token ∷ [];
       taken = c.in_ok-take.ensures.taken c.args.self.now before.tokens before.taken next;
-      no_end = no_end_more before.tokens c.in-Some.token before.no_end (λ e. false≢true (sym c.if-is_end.false ∙ c.is_end.ensures.1 e));
+      no_end = All-push (λ (t : Token). t.kind ≢ End) before.tokens c.in-Some.token before.no_end (λ e. false≢true (sym c.if-is_end.false ∙ c.is_end.ensures.1 e));
       place_is = sym (place_behind-push 0 before.tokens c.in-Some.token);
       after_is = c.is_string-after_string.ensures ∙ sym (is_behind_string-push false before.tokens c.in-Some.token);
       boundary = c.in-Some.ensures.ends;
