@@ -13,8 +13,8 @@ use Rattle.map_search.specs.declared.rows.Condition.{Condition}
 use Rattle.map_search.specs.declared.rows.Condition.TheVariants.{Subject, Object, Both, SomeSubject, SomeObject}
 use Rattle.map_search.specs.declared.search.Ending.{Ending}
 use Rattle.map_search.specs.declared.search.Ending.TheVariants.{Found, Nothing, PastLimit}
-use Rattle.map_search.specs.Maps.{FitBackwards, IsMap, HasMore}
-use Rattle.map_search.specs.Ends.{IsEnding, IsSought}
+use Rattle.map_search.specs.Maps.{FitBackwards, IsMap}
+use Rattle.map_search.specs.Ends.{IsEnding, IsSought, IsMet, HasMore}
 use Rattle.map_search.specs.Rows.{meets_all}
 use Rattle.map_search.specs.Pattern.{carried, map_of, IsNodeMap, TouchesOneOf, end_at, Stands, Meets, IsOtherEnd, IsAsked, IsAskedWhole, IsWhole, row_at, AreRows, TellsMeets, TellsMisses, fits_rows, EachIsAsked, ReachesAll, IsEndIn, EndsAmong, IsPartialNodeMap, HasMoreNodeMaps}
 use Rattle.map_search.specs.Laws.{IsSearch, MeansOfEnding}
@@ -177,8 +177,8 @@ module _ (G H : List Quad) (nodes : List ℕ) (rows : List (List Condition)) (bo
         carries = λ q there t. carries_front G H nodes rows bound meets search images is_map (omega arith) q there t (λ x e i. subst (λ l. In x l) (sym all) i);
       }
 
-  pub more_node_maps : (limit : ℕ) → HasMore bound (fits_rows meets rows) (length rows) limit → HasMoreNodeMaps G H nodes limit
-  more_node_maps limit h = record {
+  pub more_node_maps : (sought : List ℕ → Bool) (limit : ℕ) → HasMore bound (fits_rows meets rows) (length rows) sought limit → HasMoreNodeMaps G H nodes limit
+  more_node_maps sought limit h = record {
     maps = h.maps;
     distinct = h.distinct;
     are_maps = All-from_each (IsPartialNodeMap G H nodes) h.maps each;
@@ -187,10 +187,10 @@ module _ (G H : List Quad) (nodes : List ℕ) (rows : List (List Condition)) (bo
     where
       each : (images : List ℕ) → In images h.maps → IsPartialNodeMap G H nodes images
       each images i =
-          let p = each-from_All (λ images. IsMap bound (fits_rows meets rows) images × (length images ≤ length rows)) h.maps images h.are_maps i in
+          let met = each-from_All (IsMet bound (fits_rows meets rows) (length rows) sought) h.maps images h.are_met i in
           let r : length rows ≡ length nodes = search.rows_are.count in
-          let l = p.1 in
-          is_partial G H nodes rows bound meets search images p.0 (omega arith)
+          let l = met.within in
+          is_partial G H nodes rows bound meets search images met.is_map (omega arith)
 
 pub maps_of_rows : (G H : List Quad) (nodes : List ℕ) (rows : List (List Condition)) (bound : ℕ) (meets : List ℕ → Condition → ℕ → Bool) → IsSearch G H nodes rows bound meets →
     ((m : ℕ → ℕ) → IsNodeMap G H nodes m → IsMap bound (fits_rows meets rows) (map m nodes))
@@ -200,12 +200,12 @@ maps_of_rows G H nodes rows bound meets s =
 
 pub endings_mean : (H : List Quad) (nodes : List ℕ) (rows : List (List Condition)) (bound : ℕ) (meets : List ℕ → Condition → ℕ → Bool) (sought : List ℕ → Bool) (limit : ℕ) (ending : Ending) → IsSearch H H nodes rows bound meets → TellsMisses H nodes sought → IsEnding bound (fits_rows meets rows) (length rows) sought limit ending → MeansOfEnding H nodes limit ending
 endings_mean H nodes rows bound meets sought limit (Found images) s t e =
-    let w : length images.items ≡ length nodes = e.whole ∙ s.rows_are.count in
-    let n = map_is_node_map H H nodes rows bound meets s images.items e.is_map w in
-    (n, t.misses (map_of nodes images.items) n (ap sought (map_of-same nodes images.items s.rows_are.distinct w) ∙ e.is_sought))
+    let w : length images.items ≡ length nodes = e.is_sought.whole ∙ s.rows_are.count in
+    let n = map_is_node_map H H nodes rows bound meets s images.items e.is_sought.is_map w in
+    (n, t.misses (map_of nodes images.items) n (ap sought (map_of-same nodes images.items s.rows_are.distinct w) ∙ e.is_sought.is_sought))
 endings_mean H nodes rows bound meets sought limit Nothing s t e = λ m n. by m n (sought (map m nodes)) refl
   where
     by : (m : ℕ → ℕ) → IsNodeMap H H nodes m → (b : Bool) → sought (map m nodes) ≡ b → ReachesAll H nodes m
-    by m n true f = absurd (e (map m nodes) (record { is_map = node_map_is_map H H nodes m n rows s.rows_are s.asked bound meets s.tells; whole = length-map nodes m ∙ sym s.rows_are.count; is_sought = f }))
+    by m n true f = absurd (e.none (map m nodes) (record { is_map = node_map_is_map H H nodes m n rows s.rows_are s.asked bound meets s.tells; whole = length-map nodes m ∙ sym s.rows_are.count; is_sought = f }))
     by m n false f = t.reaches m n f
-endings_mean H nodes rows bound meets sought limit PastLimit s t e = more_node_maps H H nodes rows bound meets s limit e
+endings_mean H nodes rows bound meets sought limit PastLimit s t e = more_node_maps H H nodes rows bound meets s sought limit e

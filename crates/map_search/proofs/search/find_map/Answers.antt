@@ -1,7 +1,7 @@
 use Rattle.std.proofs.Common.{◌≡◌, ℕ, List, ◌+◌, ◌-◌, ◌*◌, ◌<◌, ◌≤◌, ◌∷◌, [], ◌++◌, length, reverse, refl, sym, ap, ◌∙◌, subst, arith, length-append}
-use Rattle.map_search.specs.Maps.{HasMore, IsNext, NoneFits}
+use Rattle.map_search.specs.Maps.{IsNext, NoneFits}
 use Rattle.map_search.proofs.Underway.{Underway}
-use Rattle.map_search.proofs.Steps.{State, total, at_start, past_none, more, go_deeper, pass, past_limit, go_back, nothing_left, room}
+use Rattle.map_search.proofs.Steps.{State, total, at_start, past_none, more, go_deeper, pass, past_limit, found, go_back, nothing_left}
 use Rattle.map_search.proofs.search.find_map.Goals as goal
 
 pub returns-then-limit-eq0 : goal.returns-then-limit-eq0
@@ -27,7 +27,7 @@ returns-in-None-pop g c =
     let n = rw c.as_slice.ensures.value at c.in-None.ensures.none in
     let e : c.maps.images.items ≡ [] = nil c.maps.images.items (sym (ap length c.as_slice.ensures.value) ∙ c.as_slice.ensures.len ∙ c.in-None-pop.ensures.cases.0) in
     let u = subst (λ k. Underway (g.P.Problem.bound c.args.problem.now) (g.P.Problem.fits c.args.problem.now) k (g.P.Problem.sought c.args.problem.now) (reverse c.maps.images.items) c.maps.from c.maps.tried) c.places-places.ensures.places c.maps.invariant.underway in
-    nothing_left (g.P.Problem.bound c.args.problem.now) (g.P.Problem.fits c.args.problem.now) (g.P.Problem.places c.args.problem.now) (g.P.Problem.sought c.args.problem.now) c.maps.images.items c.maps.from c.maps.tried u e n
+    nothing_left (g.P.Problem.bound c.args.problem.now) (g.P.Problem.fits c.args.problem.now) (g.P.Problem.places c.args.problem.now) (g.P.Problem.sought c.args.problem.now) c.maps.images.items c.maps.from c.maps.tried c.args.limit u e n c.maps.invariant.limit
 
 pub maps-preserved-in-Some-pop : goal.maps-preserved-in-Some-pop
 maps-preserved-in-Some-pop g c =
