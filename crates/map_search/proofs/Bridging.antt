@@ -1,5 +1,6 @@
 -- From maps of term numbers to maps of nodes to terms, and back.
 use Rattle.std.proofs.Common.{◌≡◌, ℕ, zero, suc, ◌<◌, ◌≤◌, ◌⊎◌, ◌↔◌, ◌==◌, Bool, true, false, if◌then◌else◌, List, [], ◌∷◌, length, map, take, get_or, Option, Some, None, refl, sym, ap, ◌∙◌, subst, inl, inr, arith, true≢false}
+use Rattle.std.specs.List.{All}
 use Rattle.std.proofs.lemmas.Bool.{eqb-true}
 use Rattle.std.proofs.lemmas.List.{length-map}
 use Rattle.std.proofs.lemmas.Option.{slice_get-get_or, slice_get_within, get_or_from_slice_get}
@@ -401,17 +402,17 @@ module _ (terms : List Term) (H : List Quad) (nodes walk : List ℕ) (are : AreN
   -- each of some lists by its numbers
   record AreBegunBy (all : List (List Term)) : Type 0 where
     lists : List (List ℕ)
-    are : All (IsNodeBeginning H nodes) lists
+    are_beginnings : All (IsNodeBeginning H nodes) lists
     terms_are : map (map (term_at terms)) lists ≡ all
 
   all_begun : (all : List (List Term)) → ((images : List Term) → In images all → IsBeginning triples walk images) → AreBegunBy all
-  all_begun [] each = record { lists = []; are = All-from_each (IsNodeBeginning H nodes) [] (λ x i. absurd i); terms_are = refl }
+  all_begun [] each = record { lists = []; are_beginnings = All-from_each (IsNodeBeginning H nodes) [] (λ x i. absurd i); terms_are = refl }
   all_begun (x ∷ xs) each =
       let b = begun_by x (each x (inl refl)) in
       let r = all_begun xs (λ y i. each y (inr i)) in
       record {
         lists = b.begun ∷ r.lists;
-        are = All-from_each (IsNodeBeginning H nodes) (b.begun ∷ r.lists) (λ y. elim [ inl e ↦ subst (IsNodeBeginning H nodes) (sym e) b.is_beginning | inr i ↦ each-from_All (IsNodeBeginning H nodes) r.lists y r.are i ]);
+        are_beginnings = All-from_each (IsNodeBeginning H nodes) (b.begun ∷ r.lists) (λ y. elim [ inl e ↦ subst (IsNodeBeginning H nodes) (sym e) b.is_beginning | inr i ↦ each-from_All (IsNodeBeginning H nodes) r.lists y r.are_beginnings i ]);
         terms_are = λ i. b.terms_are i ∷ r.terms_are i;
       }
 
@@ -421,7 +422,7 @@ module _ (terms : List Term) (H : List Quad) (nodes walk : List ℕ) (are : AreN
       record {
         beginnings = r.lists;
         distinct = AreDistinct-unmapped (map (term_at terms)) r.lists (subst AreDistinct (sym r.terms_are) more.distinct);
-        are_beginnings = r.are;
+        are_beginnings = r.are_beginnings;
         more = (let c : length r.lists ≡ length more.beginnings = sym (length-map r.lists (map (term_at terms))) ∙ ap length r.terms_are in let l = more.more in omega arith);
       }
 

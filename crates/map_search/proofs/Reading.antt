@@ -4,7 +4,7 @@ use Rattle.std.proofs.lemmas.Bool.{eqb-true}
 use Rattle.std.proofs.lemmas.List.{reverse-reverse, length-reverse}
 use Rattle.rdf_terms.specs.Lists.{In, AreDistinct}
 use Rattle.rdf_terms.proofs.Membership.{In-append, In-append_left, In-append_right, In-map, from_In-map}
-use Rattle.map_search.specs.Maps.{FitBackwards, IsMap, HasMore}
+use Rattle.map_search.specs.Maps.{FitBackwards}
 use Rattle.map_search.proofs.Tree.{branches, visits, visits-first}
 use Rattle.rdf_terms.proofs.MadeLists.{All-from_each}
 
