@@ -89,16 +89,8 @@ module _ (d : Document) (s : State) (settled : ℕ → Bool) (start : ℕ) (limi
   passed_gone gone = record { μ = u.μ; searching = search_goes_on limit (statements d) (left d s.live) u.μ settled start u.searching (inr gone); are_steps = u.are_steps; agrees = u.agrees }
 
   module _ (walk : List ℕ) (w : IsWalkFrom (left d s.live) start walk) where
-    pub passed_tight : (after : ℕ → Bool) → IsTight (left d s.live) walk → AreFewInOrder (left d s.live) limit walk → Marks walk settled after → IsUnderway d limit s after (start + 1)
-    passed_tight after tight few marks = record {
-      μ = u.μ;
-      searching = search_goes_on limit (statements d) (left d s.live) u.μ after start (search_settles limit (statements d) (left d s.live) u.μ settled after start few.order u.searching (is_settled tight few) (marks_in few)) (inl (marks.marks start (walk_start (left d s.live) start walk w)));
-      are_steps = u.are_steps;
-      agrees = u.agrees;
-    }
-
-    is_settled : IsTight (left d s.live) walk → (few : AreFewInOrder (left d s.live) limit walk) → IsSettled (left d s.live) limit few.order
-    is_settled tight few = record {
+    settled_in_order : IsTight (left d s.live) walk → (few : AreFewInOrder (left d s.live) limit walk) → IsSettled (left d s.live) limit few.order
+    settled_in_order tight few = record {
       closed = λ st there x y a b i. (few.same y).1 (walk_closed (left d s.live) start walk w st there x y a b ((few.same x).0 i));
       tight = IsTight-same (left d s.live) walk few.order (λ n. ((few.same n).1, (few.same n).0)) tight;
       few = few.few;
@@ -109,6 +101,14 @@ module _ (d : Document) (s : State) (settled : ℕ → Bool) (start : ℕ) (limi
       stays = marks.stays;
       marks = λ n i. marks.marks n ((few.same n).0 i);
       only = λ n e. elim (marks.only n e) [ inl b ↦ inl b | inr i ↦ inr ((few.same n).1 i) ];
+    }
+
+    pub passed_tight : (after : ℕ → Bool) → IsTight (left d s.live) walk → AreFewInOrder (left d s.live) limit walk → Marks walk settled after → IsUnderway d limit s after (start + 1)
+    passed_tight after tight few marks = record {
+      μ = u.μ;
+      searching = search_goes_on limit (statements d) (left d s.live) u.μ after start (search_settles limit (statements d) (left d s.live) u.μ settled after start few.order u.searching (settled_in_order tight few) (marks_in few marks)) (inl (marks.marks start (walk_start (left d s.live) start walk w)));
+      are_steps = u.are_steps;
+      agrees = u.agrees;
     }
 
     -- no node of the component is settled, since settled nodes hang together with settled ones alone
@@ -226,7 +226,7 @@ underway_passed d limit s settled start e u = record { μ = u.μ; searching = se
 pub turned : (d : Document) (limit start : ℕ) (walk : List ℕ) (old new : State) (before after : List Bool) (r : Searched) → IsUnderway d limit old (mark_at before) start → mark_at before start ≡ false → IsWalkFrom (left d old.live) start walk → IsSearchedAs d walk limit old new r → IsMarkedAs walk before after r → IsTurned d limit start old new after r
 turned d limit start walk old new before after Tight u f w s m = passed_tight d new (mark_at before) start limit (subst (λ t. IsUnderway d limit t (mark_at before) start) (sym s.0) u) walk (subst (λ (t : State). IsWalkFrom (left d t.live) start walk) (sym s.0) w) (mark_at after) (subst (λ (t : State). IsTight (left d t.live) walk) (sym s.0) s.1) (subst (λ (t : State). AreFewInOrder (left d t.live) limit walk) (sym s.0) s.2) m
 turned d limit start walk old new before after Shrunk u f w s m = record {
-  underway = subst (λ ms. IsUnderway d new (mark_at ms) start) (sym m) (still_underway d old (mark_at before) start limit u walk w new s.0 f s.1 s.2);
+  underway = subst (λ ms. IsUnderway d limit new (mark_at ms) start) (sym m) (still_underway d old (mark_at before) start limit u walk w new s.0 f s.1 s.2);
   unsettled = subst (λ ms. mark_at ms start ≡ false) (sym m) f;
   fewer = s.2.fewer;
 }
