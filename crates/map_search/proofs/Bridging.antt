@@ -388,11 +388,11 @@ module _ (terms : List Term) (H : List Quad) (nodes walk : List ℕ) (are : AreN
       let w : n ≤ length walk = b.within in
       let c : length (map m (take n nodes)) ≡ n = length-map (take n nodes) m ∙ sym (length-front nodes n (omega arith)) in
       let e : map (term_at terms) (map m (take n nodes)) ≡ map b.μ (take n walk) =
-            map-map (term_at terms) m (take n nodes)
-            ∙ map-agree (λ x. term_at terms (m x)) (λ x. mapped b.μ (term_at terms x)) (take n nodes) (λ x i. (numbers_agree b.μ b.is_map).same x (node_within x (In-take n nodes x i)))
-            ∙ sym (map-map (mapped b.μ) (term_at terms) (take n nodes))
-            ∙ ap (map (mapped b.μ)) (map-take (term_at terms) n nodes ∙ ap (take n) are.nodes_are ∙ sym (map-take Blank n walk))
-            ∙ map-map (mapped b.μ) Blank (take n walk) in
+      map-map (term_at terms) m (take n nodes)
+      ∙ map-agree (λ x. term_at terms (m x)) (λ x. mapped b.μ (term_at terms x)) (take n nodes) (λ x i. (numbers_agree b.μ b.is_map).same x (node_within x (In-take n nodes x i)))
+      ∙ sym (map-map (mapped b.μ) (term_at terms) (take n nodes))
+      ∙ ap (map (mapped b.μ)) (map-take (term_at terms) n nodes ∙ ap (take n) are.nodes_are ∙ sym (map-take Blank n walk))
+      ∙ map-map (mapped b.μ) Blank (take n walk) in
       record {
         begun = map m (take n nodes);
         is_beginning = record { within = omega arith; m = m; is_map = is_node_map b.μ b.is_map; images_are = ap (λ j. map m (take j nodes)) (sym c) };
