@@ -6,7 +6,7 @@ use Rattle.rdf_terms.specs.Dataset.{mentions}
 use Rattle.rdf_terms.specs.declared.term.Term.{Term}
 use Rattle.graph_model.specs.Graphs.{composed, CarriesInto, IsEndomorphism, IsImage, IsInstance, IsProperPart, IsReached, IsLean, LiesWithin}
 use Rattle.graph_model.specs.Components.{IsComponentWalk, IsClosed, IsMapOf, IsTight, IsTripleOf}
-use Rattle.graph_model.specs.Counts.{IsCount, HasMoreMaps}
+use Rattle.graph_model.specs.Counts.{IsCount, HasMoreMaps, HasMoreBeginnings}
 
 -- maps of graphs compose
 abbrev pub MapsCompose : Type 0
@@ -60,14 +60,15 @@ TightComponentsAreLean = (G : List Statement) → ((st : Statement) (n : ℕ) �
 abbrev pub TightStaysTight : Type 0
 TightStaysTight = (G H : List Statement) (nodes : List ℕ) → LiesWithin H G → ((st : Statement) → IsTripleOf G nodes st → In st H) → IsTight G nodes → IsTight H nodes
 
--- closed and tight
-pub record IsSettled (G : List Statement) (nodes : List ℕ) : Type 0 where
+-- closed and tight, and their maps have no more beginnings than the limit
+pub record IsSettled (G : List Statement) (limit : ℕ) (nodes : List ℕ) : Type 0 where
   pub closed : IsClosed G nodes
   pub tight : IsTight G nodes
+  pub few : ¬ (HasMoreBeginnings G nodes limit)
 
 -- a settled set of nodes stays settled when a map of other nodes shrinks the graph
 abbrev pub SettledStaysSettled : Type 0
-SettledStaysSettled = (G I : List Statement) (walk nodes : List ℕ) (ν : ℕ → Term) → IsMapOf G walk ν → IsImage ν G I → ((n : ℕ) → In n nodes → ¬ (In n walk)) → IsSettled G nodes → IsSettled I nodes
+SettledStaysSettled = (G I : List Statement) (limit : ℕ) (walk nodes : List ℕ) (ν : ℕ → Term) → IsMapOf G walk ν → IsImage ν G I → ((n : ℕ) → In n nodes → ¬ (In n walk)) → IsSettled G limit nodes → IsSettled I limit nodes
 
 -- more different partial maps than the limit are told exactly where the count is above it
 abbrev pub CountIsMore : Type 0

@@ -13,6 +13,7 @@ use Rattle.std.proofs.lemmas.List.Elements.{All-from_get_or}
 use Rattle.std.proofs.lemmas.Option.{get_or_from_slice_get, slice_get_within}
 use Rattle.rdf_terms.specs.Lists.{In, AreDistinct}
 use Rattle.rdf_terms.specs.Terms.{Statement}
+use Rattle.rdf_terms.specs.Dataset.{IsUsed}
 use Rattle.rdf_terms.specs.Document.{Document, IsDocument, IsInRange, statement, statements, term_at, graph_name_at}
 use Rattle.rdf_terms.specs.declared.term.Term.{Term}
 use Rattle.rdf_terms.specs.declared.term.Term.TheVariants.{Iri, Blank, Literal}
@@ -20,7 +21,7 @@ use Rattle.rdf_terms.specs.declared.term.Quad.{Quad}
 use Rattle.rdf_terms.proofs.Membership.{In-map, from_In-map}
 use Rattle.dataset_index.specs.QuadOrder.{quad_cmp, Ascend}
 use Rattle.graph_model.specs.Graphs.{mapped, mapped_triple, IsGraph, IsImage, IsLean, IsReached}
-use Rattle.graph_model.specs.Counts.{IsPastSearch}
+use Rattle.graph_model.specs.Counts.{IsPastSearch, IsWithinSearch}
 use Rattle.graph_model.specs.Laws.{IsShrunk}
 use Rattle.graph_model.proofs.Maps.{mapped_triple-same}
 use Rattle.map_search.specs.Index.{kept, quad_at}
@@ -150,7 +151,7 @@ graph_of_quads d one = All-from_each (λ st. st.graph_name ≡ None) (statements
 
 -- ---- the form
 
-module _ (d : Document) (one : IsOneGraph d) (s : State) (lean : IsLeanState d s) (form : LeanForm) (quads_are : form.quads ≡ kept d.quads s.live) (ascend : Ascend form.quads) (by_steps : IsMapBy d s.steps form.map) where
+module _ (d : Document) (one : IsOneGraph d) (limit : ℕ) (s : State) (lean : IsLeanState d limit s) (form : LeanForm) (quads_are : form.quads ≡ kept d.quads s.live) (ascend : Ascend form.quads) (by_steps : IsMapBy d s.steps form.map) where
   same_image : (n : ℕ) → n < length d.labels → lean.μ n ≡ map_by d.terms form.map n
   same_image n l =
       let p = by_steps.each n l in
@@ -170,7 +171,7 @@ module _ (d : Document) (one : IsOneGraph d) (s : State) (lean : IsLeanState d s
   same_reach : (st : Statement) → IsReached lean.μ (statements d) st → IsReached (map_by d.terms form.map) (statements d) st
   same_reach st r = subst (In st) (map-agree (mapped_triple lean.μ) (mapped_triple (map_by d.terms form.map)) (statements d) same_triple) r
 
-  pub is_lean_form : IsLeanForm d form
+  pub is_lean_form : IsLeanForm d limit form
   is_lean_form = record {
     graph = graph_of_quads d one;
     count = by_steps.count;
@@ -186,6 +187,7 @@ module _ (d : Document) (one : IsOneGraph d) (s : State) (lean : IsLeanState d s
       };
     });
     lean = subst (λ qs. IsLean (map (statement d.terms) qs)) (sym quads_are) lean.lean;
+    searched = subst (λ qs. (n : ℕ) → IsUsed (map (statement d.terms) qs) n → IsWithinSearch (map (statement d.terms) qs) limit n) (sym quads_are) lean.searched;
   }
 
 pub is_one_graph : (d : Document) (named : Option Quad) → IsDocument d → AreDistinct d.terms → AreDistinct d.quads → All (IsInRange d.terms) d.quads → IfNone named (All (λ q. q.g ≡ None) d.quads) → IfNone named (IsOneGraph d)
@@ -218,7 +220,7 @@ is_past_limit d limit s quads one e ascend past = record {
   past = subst (λ qs. IsPastSearch (statements d) (map (statement d.terms) qs) limit) (sym e) past;
 }
 
-pub lean_of_true : (d : Document) (limit : ℕ) (s : State) (b : Bool) → b ≡ true → IsSearchedTo d limit s b → IsLeanState d s
+pub lean_of_true : (d : Document) (limit : ℕ) (s : State) (b : Bool) → b ≡ true → IsSearchedTo d limit s b → IsLeanState d limit s
 lean_of_true d limit s b e h = subst (IsSearchedTo d limit s) e h
 
 pub past_of_false : (d : Document) (limit : ℕ) (s : State) (b : Bool) → b ≡ false → IsSearchedTo d limit s b → IsPastSearch (statements d) (left d s.live) limit

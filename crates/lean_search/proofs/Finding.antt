@@ -39,7 +39,7 @@ module _ (d : Document) (i : IndexView) (one : IsOneGraph d) (index : IsIndexOf 
   images : (ending : Ending) → Ends ending → AreImages (length d.terms) own ending
   images (Found xs) e =
       let f = ends (Found xs) e in
-      (f.whole ∙ search.rows_are.count, All-from_get_or (λ t. t < length d.terms) xs.items 0 (λ k l. (each_from_is_map (length d.terms) (fits_rows (meets_in (quads_left d i.live)) (map conditions rows)) xs.items f.is_map k l).0))
+      (f.is_sought.whole ∙ search.rows_are.count, All-from_get_or (λ t. t < length d.terms) xs.items 0 (λ k l. (each_from_is_map (length d.terms) (fits_rows (meets_in (quads_left d i.live)) (map conditions rows)) xs.items f.is_sought.is_map k l).0))
   images Nothing e = tt
   images PastLimit e = tt
 

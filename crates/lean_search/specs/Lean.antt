@@ -2,13 +2,14 @@
 use Rattle.std.specs.Prelude.{◌≡◌, ℕ, ◌<◌, List, map, length, Option, Some, None, IsSome, slice_get, slice_index, All}
 use Rattle.rdf_terms.specs.Lists.{In}
 use Rattle.rdf_terms.specs.Terms.{Statement}
+use Rattle.rdf_terms.specs.Dataset.{IsUsed}
 use Rattle.rdf_terms.specs.Document.{Document, statement, statements, term_at}
 use Rattle.rdf_terms.specs.declared.term.Term.{Term}
 use Rattle.rdf_terms.specs.declared.term.Quad.{Quad}
 use Rattle.dataset_index.specs.QuadOrder.{Ascend}
 use Rattle.graph_model.specs.Graphs.{IsGraph, IsLean}
 use Rattle.graph_model.specs.Laws.{IsShrunk}
-use Rattle.graph_model.specs.Counts.{IsPastSearch}
+use Rattle.graph_model.specs.Counts.{IsPastSearch, IsWithinSearch}
 use Rattle.lean_search.specs.declared.form.LeanForm.{LeanForm}
 use Rattle.lean_search.specs.declared.form.LeanStop.{LeanStop}
 use Rattle.lean_search.specs.declared.form.LeanStop.TheVariants.{NotOneGraph, SearchLimit, NoMemory}
@@ -20,8 +21,8 @@ map_by terms numbers n = term_at terms (slice_index numbers n)
 abbrev pub triples_of : Document → List Quad → List Statement
 triples_of d quads = map (statement d.terms) quads
 
--- the quads are lean, and the map is an endomorphism of the graph with them as its image
-pub record IsLeanForm (d : Document) (form : LeanForm) : Type 0 where
+-- the quads are lean, and the map is an endomorphism of the graph with them as its image; each node of them lies in a set that was searched within the limit
+pub record IsLeanForm (d : Document) (limit : ℕ) (form : LeanForm) : Type 0 where
   pub graph : IsGraph (statements d)
   pub count : length form.map ≡ length d.labels
   pub in_range : All (λ n. n < length d.terms) form.map
@@ -29,6 +30,7 @@ pub record IsLeanForm (d : Document) (form : LeanForm) : Type 0 where
   pub within : (q : Quad) → In q form.quads → In q d.quads
   pub shrunk : IsShrunk (statements d) (map_by d.terms form.map) (triples_of d form.quads)
   pub lean : IsLean (triples_of d form.quads)
+  pub searched : (n : ℕ) → IsUsed (triples_of d form.quads) n → IsWithinSearch (triples_of d form.quads) limit n
 
 -- the first quad with a graph name
 pub record IsFirstNamed (quads : List Quad) (quad : Quad) : Type 0 where

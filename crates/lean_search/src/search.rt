@@ -78,7 +78,7 @@ fn turn(
     requires used { IsUsed (left graph.now room.old.index.live) start }
     requires marks { length settled.old ≡ length graph.now.labels }
     requires unsettled { mark_at settled.old start ≡ false }
-    requires underway { IsUnderway graph.now (state_of room.old) (mark_at settled.old) start }
+    requires underway { IsUnderway graph.now limit (state_of room.old) (mark_at settled.old) start }
     ensures room { OnOk result (IsRoom graph.now room.new) }
     ensures turned { IfOk result (IsTurned graph.now limit start (state_of room.old) (state_of room.new) settled.new) }
 {
@@ -103,7 +103,7 @@ fn settle(
     requires within { start < length graph.now.labels }
     requires marks { length settled.old ≡ length graph.now.labels }
     requires unsettled { mark_at settled.old start ≡ false }
-    requires underway { IsUnderway graph.now (state_of room.old) (mark_at settled.old) start }
+    requires underway { IsUnderway graph.now limit (state_of room.old) (mark_at settled.old) start }
     ensures room { OnOk result (IsRoom graph.now room.new) }
     ensures settled { IfOk result (IsSettledTo graph.now limit (state_of room.new) (mark_at settled.new) (start + 1)) }
 {
@@ -133,7 +133,7 @@ fn pass(
     requires room { IsRoom graph.now room.old }
     requires within { start < length graph.now.labels }
     requires marks { length settled.old ≡ length graph.now.labels }
-    requires underway { IsUnderway graph.now (state_of room.old) (mark_at settled.old) start }
+    requires underway { IsUnderway graph.now limit (state_of room.old) (mark_at settled.old) start }
     ensures room { OnOk result (IsRoom graph.now room.new) }
     ensures settled { IfOk result (IsSettledTo graph.now limit (state_of room.new) (mark_at settled.new) (start + 1)) }
 {
@@ -154,7 +154,7 @@ fn search_from(
     requires one { IsOneGraph graph.now }
     requires room { IsRoom graph.now room.old }
     requires marks { length settled.old ≡ length graph.now.labels }
-    requires underway { IsUnderway graph.now (state_of room.old) (mark_at settled.old) 0 }
+    requires underway { IsUnderway graph.now limit (state_of room.old) (mark_at settled.old) 0 }
     ensures room { OnOk result (IsRoom graph.now room.new) }
     ensures searched { IfOk result (IsSearchedTo graph.now limit (state_of room.new)) }
 {
@@ -256,7 +256,7 @@ fn form_of(
 
 fn lean_of(alloc: Global, graph: &Dataset, limit: u64) -> Result<LeanForm, LeanStop>
     requires { IsOneGraph graph.now }
-    ensures form { IfOk result (IsLeanForm graph.now) }
+    ensures form { IfOk result (IsLeanForm graph.now limit) }
     ensures stop { IfErr result (IsLeanStop graph.now limit) }
 {
     let mut room = make_room(alloc, graph)?;
@@ -273,7 +273,7 @@ fn lean_of(alloc: Global, graph: &Dataset, limit: u64) -> Result<LeanForm, LeanS
 /// A lean graph, and an endomorphism of the graph onto it (RDF 1.1 Semantics, section 4). Each search of
 /// a component tries at most `limit` maps of its first nodes, the empty one among them.
 pub fn lean(alloc: Global, graph: &Dataset, limit: u64) -> Result<LeanForm, LeanStop>
-    ensures form { IfOk result (IsLeanForm graph.now) }
+    ensures form { IfOk result (IsLeanForm graph.now limit) }
     ensures stop { IfErr result (IsLeanStop graph.now limit) }
 {
     match named_quad(graph) {

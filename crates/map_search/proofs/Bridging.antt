@@ -1,5 +1,6 @@
 -- From maps of term numbers to maps of nodes to terms, and back.
 use Rattle.std.proofs.Common.{◌≡◌, ℕ, zero, suc, ◌<◌, ◌≤◌, ◌⊎◌, ◌↔◌, ◌==◌, Bool, true, false, if◌then◌else◌, List, [], ◌∷◌, length, map, take, get_or, Option, Some, None, refl, sym, ap, ◌∙◌, subst, inl, inr, arith, true≢false}
+use Rattle.std.specs.List.{All}
 use Rattle.std.proofs.lemmas.Bool.{eqb-true}
 use Rattle.std.proofs.lemmas.List.{length-map}
 use Rattle.std.proofs.lemmas.Option.{slice_get-get_or, slice_get_within, get_or_from_slice_get}
@@ -14,10 +15,10 @@ use Rattle.rdf_terms.proofs.Membership.{In-map, from_In-map, In-at, In-take, Are
 use Rattle.rdf_terms.proofs.Adding.{statement_injective}
 use Rattle.graph_model.specs.Graphs.{mapped, mapped_triple, IsReached}
 use Rattle.graph_model.specs.Components.{IsMapOf, IsTight, Touches, IsTripleOf}
-use Rattle.graph_model.specs.Counts.{IsEnd, MentionsOnly, IsPartialMap, HasMoreMaps}
+use Rattle.graph_model.specs.Counts.{IsEnd, MentionsOnly, IsPartialMap, HasMoreMaps, IsBeginning, HasMoreBeginnings}
 use Rattle.graph_model.proofs.Maps.{by_subject, by_object, or_cases, eqb-itself}
 use Rattle.graph_model.proofs.Closed.{decide_in}
-use Rattle.map_search.specs.Pattern.{carried, map_of, IsNodeMap, TouchesOneOf, IsReachedBy, ReachesAll, IsEndIn, EndsAmong, IsPartialNodeMap, HasMoreNodeMaps}
+use Rattle.map_search.specs.Pattern.{carried, map_of, IsNodeMap, TouchesOneOf, IsReachedBy, ReachesAll, IsEndIn, EndsAmong, IsPartialNodeMap, HasMoreNodeMaps, IsNodeBeginning, HasMoreNodeBeginnings}
 use Rattle.map_search.specs.Laws.{IsInTriple, MeansOfEnding}
 use Rattle.map_search.specs.Numbers.{AreNumbers, Agrees, IsSaidBy, MeansByTerms}
 use Rattle.map_search.specs.declared.search.Ending.{Ending}
@@ -184,6 +185,11 @@ same_numbers terms once (x ∷ xs) (y ∷ ys) a b e =
     let s : x ≡ y = number_is terms once x y (a x (inl refl)) (b y (inl refl)) h in
     let r : xs ≡ ys = same_numbers terms once xs ys (λ k i. a k (inr i)) (λ k i. b k (inr i)) t in
     cc
+
+-- what differs when it is mapped differs
+AreDistinct-unmapped : {A B : Type 0} (f : A → B) (xs : List A) → AreDistinct (map f xs) → AreDistinct xs
+AreDistinct-unmapped f [] d = tt
+AreDistinct-unmapped f (x ∷ xs) d = (λ i. d.0 (In-map f xs x i), AreDistinct-unmapped f xs d.1)
 
 -- ---- maps of the nodes of a walk
 
@@ -366,9 +372,63 @@ module _ (terms : List Term) (H : List Quad) (nodes walk : List ℕ) (are : AreN
       each : (a : List ℕ) → In a more.maps → IsPartialNodeMap H H nodes a
       each a i = each-from_All (IsPartialNodeMap H H nodes) more.maps a more.are_maps i
 
+  -- ---- beginnings of maps of all nodes
+
+  -- the numbers of a list of terms are a beginning by numbers
+  record IsBegunBy (terms_of : List Term) : Type 0 where
+    begun : List ℕ
+    is_beginning : IsNodeBeginning H nodes begun
+    terms_are : map (term_at terms) begun ≡ terms_of
+
+  begun_by : (images : List Term) → IsBeginning triples walk images → IsBegunBy images
+  begun_by images b =
+      let m = numbers b.μ b.is_map in
+      let n = length images in
+      let k : length nodes ≡ length walk = sym (length-map nodes (term_at terms)) ∙ ap length are.nodes_are ∙ length-map walk Blank in
+      let w : n ≤ length walk = b.within in
+      let c : length (map m (take n nodes)) ≡ n = length-map (take n nodes) m ∙ sym (length-front nodes n (omega arith)) in
+      let e : map (term_at terms) (map m (take n nodes)) ≡ map b.μ (take n walk) =
+      map-map (term_at terms) m (take n nodes)
+      ∙ map-agree (λ x. term_at terms (m x)) (λ x. mapped b.μ (term_at terms x)) (take n nodes) (λ x i. (numbers_agree b.μ b.is_map).same x (node_within x (In-take n nodes x i)))
+      ∙ sym (map-map (mapped b.μ) (term_at terms) (take n nodes))
+      ∙ ap (map (mapped b.μ)) (map-take (term_at terms) n nodes ∙ ap (take n) are.nodes_are ∙ sym (map-take Blank n walk))
+      ∙ map-map (mapped b.μ) Blank (take n walk) in
+      record {
+        begun = map m (take n nodes);
+        is_beginning = record { within = omega arith; m = m; is_map = is_node_map b.μ b.is_map; images_are = ap (λ j. map m (take j nodes)) (sym c) };
+        terms_are = e ∙ sym b.images_are;
+      }
+
+  -- each of some lists by its numbers
+  record AreBegunBy (all : List (List Term)) : Type 0 where
+    lists : List (List ℕ)
+    are_beginnings : All (IsNodeBeginning H nodes) lists
+    terms_are : map (map (term_at terms)) lists ≡ all
+
+  all_begun : (all : List (List Term)) → ((images : List Term) → In images all → IsBeginning triples walk images) → AreBegunBy all
+  all_begun [] each = record { lists = []; are_beginnings = All-from_each (IsNodeBeginning H nodes) [] (λ x i. absurd i); terms_are = refl }
+  all_begun (x ∷ xs) each =
+      let b = begun_by x (each x (inl refl)) in
+      let r = all_begun xs (λ y i. each y (inr i)) in
+      record {
+        lists = b.begun ∷ r.lists;
+        are_beginnings = All-from_each (IsNodeBeginning H nodes) (b.begun ∷ r.lists) (λ y. elim [ inl e ↦ subst (IsNodeBeginning H nodes) (sym e) b.is_beginning | inr i ↦ each-from_All (IsNodeBeginning H nodes) r.lists y r.are_beginnings i ]);
+        terms_are = λ i. b.terms_are i ∷ r.terms_are i;
+      }
+
+  more_beginnings : (limit : ℕ) → HasMoreBeginnings triples walk limit → HasMoreNodeBeginnings H nodes limit
+  more_beginnings limit more =
+      let r = all_begun more.beginnings (λ x i. each-from_All (IsBeginning triples walk) more.beginnings x more.are_beginnings i) in
+      record {
+        beginnings = r.lists;
+        distinct = AreDistinct-unmapped (map (term_at terms)) r.lists (subst AreDistinct (sym r.terms_are) more.distinct);
+        are_beginnings = r.are_beginnings;
+        more = (let c : length r.lists ≡ length more.beginnings = sym (length-map r.lists (map (term_at terms))) ∙ ap length r.terms_are in let l = more.more in omega arith);
+      }
+
 pub endings_mean_by_terms : (terms : List Term) (H : List Quad) (nodes walk : List ℕ) (limit : ℕ) (ending : Ending) → AreNumbers terms H nodes walk → MeansOfEnding H nodes limit ending → MeansByTerms terms H nodes walk limit ending
 endings_mean_by_terms terms H nodes walk limit (Found images) are m = (said_by terms H nodes walk are (map_of nodes images.items) m.0, m.1)
-endings_mean_by_terms terms H nodes walk limit Nothing are m = tight terms H nodes walk are m
+endings_mean_by_terms terms H nodes walk limit Nothing are m = (tight terms H nodes walk are m.0, λ more. m.1 (more_beginnings terms H nodes walk are limit more))
 endings_mean_by_terms terms H nodes walk limit PastLimit are m = more_maps terms H nodes walk are limit m
 
 pub agreeing_maps_reach : (terms : List Term) (H : List Quad) (nodes walk : List ℕ) (μ : ℕ → Term) (m : ℕ → ℕ) → AreNumbers terms H nodes walk → Agrees terms μ m → (q : Quad) → In q H → IsReachedBy m H q ↔ IsReached μ (map (statement terms) H) (statement terms q)

@@ -2,7 +2,7 @@
 use Rattle.std.proofs.Common.{◌≡◌, ℕ, zero, suc, ◌+◌, ◌<◌, ◌≤◌, ◌⊎◌, ◌↔◌, ◌==◌, Bool, true, false, ◌&&◌, if◌then◌else◌, List, [], ◌∷◌, ◌++◌, length, take, drop, map, reverse, get_or, None, refl, sym, ap, ◌∙◌, subst, inl, inr, arith, eq-eqb, true≢false}
 use Rattle.std.specs.List.{list_all}
 use Rattle.std.proofs.lemmas.Bool.{eqb-true}
-use Rattle.std.proofs.lemmas.List.{get_or-take, length-map, length-take-le, reverse-append, reverse-reverse, take-append-drop}
+use Rattle.std.proofs.lemmas.List.{get_or-take, length-map, length-take-le, reverse-append, reverse-reverse, take-append-drop, take-map}
 use Rattle.std.proofs.Math.Seq.{take-suc, take-length}
 use Rattle.rdf_terms.specs.Lists.{In, AreDistinct}
 use Rattle.std.proofs.lemmas.Bool.{and_parts}
@@ -13,10 +13,10 @@ use Rattle.map_search.specs.declared.rows.Condition.{Condition}
 use Rattle.map_search.specs.declared.rows.Condition.TheVariants.{Subject, Object, Both, SomeSubject, SomeObject}
 use Rattle.map_search.specs.declared.search.Ending.{Ending}
 use Rattle.map_search.specs.declared.search.Ending.TheVariants.{Found, Nothing, PastLimit}
-use Rattle.map_search.specs.Maps.{FitBackwards, IsMap, HasMore}
-use Rattle.map_search.specs.Ends.{IsEnding, IsSought}
+use Rattle.map_search.specs.Maps.{FitBackwards, IsMap}
+use Rattle.map_search.specs.Ends.{IsEnding, IsSought, IsMet, HasMore, IsNothing}
 use Rattle.map_search.specs.Rows.{meets_all}
-use Rattle.map_search.specs.Pattern.{carried, map_of, IsNodeMap, TouchesOneOf, end_at, Stands, Meets, IsOtherEnd, IsAsked, IsAskedWhole, IsWhole, row_at, AreRows, TellsMeets, TellsMisses, fits_rows, EachIsAsked, ReachesAll, IsEndIn, EndsAmong, IsPartialNodeMap, HasMoreNodeMaps}
+use Rattle.map_search.specs.Pattern.{carried, map_of, IsNodeMap, TouchesOneOf, end_at, Stands, Meets, IsOtherEnd, IsAsked, IsAskedWhole, IsWhole, row_at, AreRows, TellsMeets, TellsMisses, fits_rows, EachIsAsked, ReachesAll, IsEndIn, EndsAmong, IsPartialNodeMap, HasMoreNodeMaps, IsNodeBeginning, HasMoreNodeBeginnings}
 use Rattle.map_search.specs.Laws.{IsSearch, MeansOfEnding}
 use Rattle.map_search.proofs.Linking.{node_map_is_map}
 use Rattle.rdf_terms.proofs.MadeLists.{All-from_each, each-from_All}
@@ -27,6 +27,11 @@ module _ (bound : ℕ) (fits : List ℕ → ℕ → Bool) where
   behind : (later path : List ℕ) → FitBackwards bound fits (later ++ path) → FitBackwards bound fits path
   behind [] path f = f
   behind (t ∷ later) path f = behind later path f.0
+
+  pub front_is_map : (images : List ℕ) (n : ℕ) → IsMap bound fits images → IsMap bound fits (take n images)
+  front_is_map images n f =
+      let e : reverse images ≡ reverse (drop n images) ++ reverse (take n images) = ap reverse (sym (take-append-drop n images)) ∙ reverse-append (take n images) (drop n images) in
+      behind (reverse (drop n images)) (reverse (take n images)) (subst (FitBackwards bound fits) e f)
 
   pub each_from_is_map : (images : List ℕ) → IsMap bound fits images → (k : ℕ) → k < length images → (get_or images k 0 < bound) × (fits (take k images) (get_or images k 0) ≡ true)
   each_from_is_map images f k l =
@@ -177,8 +182,8 @@ module _ (G H : List Quad) (nodes : List ℕ) (rows : List (List Condition)) (bo
         carries = λ q there t. carries_front G H nodes rows bound meets search images is_map (omega arith) q there t (λ x e i. subst (λ l. In x l) (sym all) i);
       }
 
-  pub more_node_maps : (limit : ℕ) → HasMore bound (fits_rows meets rows) (length rows) limit → HasMoreNodeMaps G H nodes limit
-  more_node_maps limit h = record {
+  pub more_node_maps : (sought : List ℕ → Bool) (limit : ℕ) → HasMore bound (fits_rows meets rows) (length rows) sought limit → HasMoreNodeMaps G H nodes limit
+  more_node_maps sought limit h = record {
     maps = h.maps;
     distinct = h.distinct;
     are_maps = All-from_each (IsPartialNodeMap G H nodes) h.maps each;
@@ -187,10 +192,29 @@ module _ (G H : List Quad) (nodes : List ℕ) (rows : List (List Condition)) (bo
     where
       each : (images : List ℕ) → In images h.maps → IsPartialNodeMap G H nodes images
       each images i =
-          let p = each-from_All (λ images. IsMap bound (fits_rows meets rows) images × (length images ≤ length rows)) h.maps images h.are_maps i in
+          let met = each-from_All (IsMet bound (fits_rows meets rows) (length rows) sought) h.maps images h.are_met i in
           let r : length rows ≡ length nodes = search.rows_are.count in
-          let l = p.1 in
-          is_partial G H nodes rows bound meets search images p.0 (omega arith)
+          let l = met.within in
+          is_partial G H nodes rows bound meets search images met.is_map (omega arith)
+
+-- where no map is sought, each beginning of a map is met
+few_beginnings : (H : List Quad) (nodes : List ℕ) (rows : List (List Condition)) (bound : ℕ) (meets : List ℕ → Condition → ℕ → Bool) (sought : List ℕ → Bool) (limit : ℕ) → IsSearch H H nodes rows bound meets → IsNothing bound (fits_rows meets rows) (length rows) sought limit → ¬ (HasMoreNodeBeginnings H nodes limit)
+few_beginnings H nodes rows bound meets sought limit s nothing more =
+    nothing.few (record {
+      maps = more.beginnings;
+      distinct = more.distinct;
+      are_met = All-from_each (IsMet bound (fits_rows meets rows) (length rows) sought) more.beginnings (λ images i. met images (each-from_All (IsNodeBeginning H nodes) more.beginnings images more.are_beginnings i));
+      more = more.more;
+    })
+  where
+    met : (images : List ℕ) → IsNodeBeginning H nodes images → IsMet bound (fits_rows meets rows) (length rows) sought images
+    met images b =
+        let e : images ≡ take (length images) (map b.m nodes) = b.images_are ∙ sym (take-map b.m (length images) nodes) in
+        record {
+          is_map = subst (IsMap bound (fits_rows meets rows)) (sym e) (front_is_map bound (fits_rows meets rows) (map b.m nodes) (length images) (node_map_is_map H H nodes b.m b.is_map rows s.rows_are s.asked bound meets s.tells));
+          within = (let c : length rows ≡ length nodes = s.rows_are.count in let w = b.within in omega arith);
+          none_before = λ other o. absurd (nothing.none other o);
+        }
 
 pub maps_of_rows : (G H : List Quad) (nodes : List ℕ) (rows : List (List Condition)) (bound : ℕ) (meets : List ℕ → Condition → ℕ → Bool) → IsSearch G H nodes rows bound meets →
     ((m : ℕ → ℕ) → IsNodeMap G H nodes m → IsMap bound (fits_rows meets rows) (map m nodes))
@@ -200,12 +224,12 @@ maps_of_rows G H nodes rows bound meets s =
 
 pub endings_mean : (H : List Quad) (nodes : List ℕ) (rows : List (List Condition)) (bound : ℕ) (meets : List ℕ → Condition → ℕ → Bool) (sought : List ℕ → Bool) (limit : ℕ) (ending : Ending) → IsSearch H H nodes rows bound meets → TellsMisses H nodes sought → IsEnding bound (fits_rows meets rows) (length rows) sought limit ending → MeansOfEnding H nodes limit ending
 endings_mean H nodes rows bound meets sought limit (Found images) s t e =
-    let w : length images.items ≡ length nodes = e.whole ∙ s.rows_are.count in
-    let n = map_is_node_map H H nodes rows bound meets s images.items e.is_map w in
-    (n, t.misses (map_of nodes images.items) n (ap sought (map_of-same nodes images.items s.rows_are.distinct w) ∙ e.is_sought))
-endings_mean H nodes rows bound meets sought limit Nothing s t e = λ m n. by m n (sought (map m nodes)) refl
+    let w : length images.items ≡ length nodes = e.is_sought.whole ∙ s.rows_are.count in
+    let n = map_is_node_map H H nodes rows bound meets s images.items e.is_sought.is_map w in
+    (n, t.misses (map_of nodes images.items) n (ap sought (map_of-same nodes images.items s.rows_are.distinct w) ∙ e.is_sought.is_sought))
+endings_mean H nodes rows bound meets sought limit Nothing s t e = (λ m n. by m n (sought (map m nodes)) refl, few_beginnings H nodes rows bound meets sought limit s e)
   where
     by : (m : ℕ → ℕ) → IsNodeMap H H nodes m → (b : Bool) → sought (map m nodes) ≡ b → ReachesAll H nodes m
-    by m n true f = absurd (e (map m nodes) (record { is_map = node_map_is_map H H nodes m n rows s.rows_are s.asked bound meets s.tells; whole = length-map nodes m ∙ sym s.rows_are.count; is_sought = f }))
+    by m n true f = absurd (e.none (map m nodes) (record { is_map = node_map_is_map H H nodes m n rows s.rows_are s.asked bound meets s.tells; whole = length-map nodes m ∙ sym s.rows_are.count; is_sought = f }))
     by m n false f = t.reaches m n f
-endings_mean H nodes rows bound meets sought limit PastLimit s t e = more_node_maps H H nodes rows bound meets s limit e
+endings_mean H nodes rows bound meets sought limit PastLimit s t e = more_node_maps H H nodes rows bound meets s sought limit e

@@ -1,5 +1,6 @@
 pub mod Tree
 pub mod Reading
+pub mod InOrder
 pub mod Underway
 pub mod Steps
 pub mod Passing

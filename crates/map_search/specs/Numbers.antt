@@ -7,7 +7,7 @@ use Rattle.rdf_terms.specs.declared.term.Term.TheVariants.{Blank}
 use Rattle.rdf_terms.specs.declared.term.Quad.{Quad}
 use Rattle.graph_model.specs.Graphs.{mapped, IsReached}
 use Rattle.graph_model.specs.Components.{IsMapOf, IsTight}
-use Rattle.graph_model.specs.Counts.{HasMoreMaps}
+use Rattle.graph_model.specs.Counts.{HasMoreMaps, HasMoreBeginnings}
 use Rattle.map_search.specs.Pattern.{IsNodeMap, IsReachedBy, Misses, map_of}
 use Rattle.map_search.specs.Laws.{IsInTriple, MeansOfEnding}
 use Rattle.map_search.specs.declared.search.Ending.{Ending}
@@ -36,7 +36,7 @@ pub record IsSaidBy (terms : List Term) (H : List Quad) (walk : List ℕ) (m : �
 -- an ending, by terms
 abbrev pub MeansByTerms : List Term → List Quad → List ℕ → List ℕ → ℕ → Ending → Type 0
 MeansByTerms terms H nodes walk limit (Found images) = IsSaidBy terms H walk (map_of nodes images.items) × Misses H nodes (map_of nodes images.items)
-MeansByTerms terms H nodes walk limit Nothing = IsTight (map (statement terms) H) walk
+MeansByTerms terms H nodes walk limit Nothing = IsTight (map (statement terms) H) walk × (¬ (HasMoreBeginnings (map (statement terms) H) walk limit))
 MeansByTerms terms H nodes walk limit PastLimit = HasMoreMaps (map (statement terms) H) (map (statement terms) H) walk limit
 
 abbrev pub EndingsMeanByTerms : Type 0

@@ -159,6 +159,21 @@ pub record HasMoreNodeMaps (G H : List Quad) (nodes : List ℕ) (limit : ℕ) : 
   pub are_maps : All (IsPartialNodeMap G H nodes) maps
   pub more : limit < length maps
 
+-- ---- beginnings of maps of all nodes
+
+-- the images of the first nodes under a map of all of them
+pub record IsNodeBeginning (H : List Quad) (nodes images : List ℕ) : Type 0 where
+  pub within : length images ≤ length nodes
+  pub m : ℕ → ℕ
+  pub is_map : IsNodeMap H H nodes m
+  pub images_are : images ≡ map m (take (length images) nodes)
+
+pub record HasMoreNodeBeginnings (H : List Quad) (nodes : List ℕ) (limit : ℕ) : Type 0 where
+  pub beginnings : List (List ℕ)
+  pub distinct : AreDistinct beginnings
+  pub are_beginnings : All (IsNodeBeginning H nodes) beginnings
+  pub more : limit < length beginnings
+
 -- some node is no image
 abbrev pub misses_node : List ℕ → List ℕ → Bool
 misses_node nodes images = not (list_all (λ x. list_any (λ i. i == x) images) nodes)

@@ -14,8 +14,8 @@ pub fn maps_of_rows()
     ensures { MapsOfRows }
 {}
 
-/// A search that finds nothing shows that each map of the nodes reaches each triple of theirs, and
-/// what it finds is a map that misses one.
+/// A search that finds nothing shows that each map of the nodes reaches each triple of theirs, and that
+/// these maps have no more beginnings than the limit; what it finds is a map that misses one.
 pub fn endings_mean()
     ensures { EndingsMean }
 {}

@@ -54,8 +54,8 @@ fn drop_last(images: &mut Vec<u32>)
     images.pop();
 }
 
-/// Looks for a map of all places that is sought, trying at most `limit` maps of first places, the
-/// empty one among them.
+/// Looks for the first map of all places that is sought, and meets at most `limit` maps of first
+/// places on the way, the empty one among them.
 pub fn find_map<P: Problem>(alloc: Global, problem: &P, limit: u64) -> Result<Ending, NoMemory>
     requires { 0 < P.places problem.now }
     ensures { IfOk result (IsEnding (P.bound problem.now) (P.fits problem.now) (P.places problem.now) (P.sought problem.now) limit) }

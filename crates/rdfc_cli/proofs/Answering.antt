@@ -125,7 +125,7 @@ module _ (file : Text → FileSeen) (word : Text) (settings : Settings) where
   stops-graph d (SearchLimit limit image) a s = (s.0, if_accepted (file word) d (λ content. IsPastMaps content.dataset settings.limit image) a s.1)
 
   pub written-graph : (d : Document) (output : Output) → IfSome (file word).told (λ t. Accepts t (content_of d)) → IsLeanOutput settings d output → IsWritten file (lean word) settings output.unsettled output.text
-  written-graph d output a o = (o.0, if_accepted (file word) d (λ content. IsLeaning settings.map content.dataset output.text) a o.1)
+  written-graph d output a o = (o.0, if_accepted (file word) d (λ content. IsLeaning settings.map settings.limit content.dataset output.text) a o.1)
 
 -- ---- a document that is made
 

@@ -31,7 +31,7 @@ is_numbered (Literal l) = tt
 pub all_numbered : (terms : List Term) (quads : List Quad) → All (λ q. HasNames numbered_name (statement terms q)) quads
 all_numbered terms quads = All-from_each (λ q. HasNames numbered_name (statement terms q)) quads (λ q i. has_numbered_names (statement terms q))
 
-module _ (d : Document) (form : LeanForm) (lean : IsLeanForm d form) where
+module _ (d : Document) (limit : ℕ) (form : LeanForm) (lean : IsLeanForm d limit form) where
   pub quads_in_range : All (IsInRange d.terms) d.quads → All (IsInRange d.terms) form.quads
   quads_in_range range = All-from_each (IsInRange d.terms) form.quads (λ q i. each-from_All (IsInRange d.terms) d.quads q range (lean.within q i))
 
@@ -39,15 +39,15 @@ module _ (d : Document) (form : LeanForm) (lean : IsLeanForm d form) where
   pub may_be_written : (terms : List Term) (quads : List Quad) → All (IsInRange d.terms) d.quads → terms ≡ d.terms → quads ≡ form.quads → All (IsInRange terms) quads
   may_be_written terms quads range et eq = subst (λ ts. All (IsInRange ts) quads) (sym et) (subst (All (IsInRange d.terms)) (sym eq) (quads_in_range range))
 
-  is_lean_image : IsLeanImage (statements d) (map_by d.terms form.map) (triples_of d form.quads)
-  is_lean_image = record { graph = lean.graph; endomorphism = lean.shrunk.endomorphism; is_image = lean.shrunk.is_image; lean = lean.lean }
+  is_lean_image : IsLeanImage (statements d) limit (map_by d.terms form.map) (triples_of d form.quads)
+  is_lean_image = record { graph = lean.graph; endomorphism = lean.shrunk.endomorphism; is_image = lean.shrunk.is_image; lean = lean.lean; searched = lean.searched }
 
-  pub is_lean_text : (text : Text) → text ≡ joined (sorted (map (canonical_line (naming_of numbered_name)) (triples_of d form.quads))) → IsLeanText (dataset d) text
+  pub is_lean_text : (text : Text) → text ≡ joined (sorted (map (canonical_line (naming_of numbered_name)) (triples_of d form.quads))) → IsLeanText (dataset d) limit text
   is_lean_text text e = record { μ = map_by d.terms form.map; image = triples_of d form.quads; is_lean_image = is_lean_image; text_is = e }
 
   -- ---- the map
 
-  pub is_map_text : (text : Text) → text ≡ flat_map (mapped_line (map_by d.terms form.map)) (numbers_below (length d.labels)) → IsLeanMapText (dataset d) text
+  pub is_map_text : (text : Text) → text ≡ flat_map (mapped_line (map_by d.terms form.map)) (numbers_below (length d.labels)) → IsLeanMapText (dataset d) limit text
   is_map_text text e = record { μ = map_by d.terms form.map; image = triples_of d form.quads; is_lean_image = is_lean_image; text_is = e }
 
 -- one more line

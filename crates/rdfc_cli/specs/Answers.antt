@@ -129,7 +129,7 @@ abbrev pub IsWritten : (Text → FileSeen) → Command → Settings → Option T
 IsWritten file (on_file task word) settings found text =
     IfAccepted (file word) (λ content. IsRunText settings found (λ ρ. IsTextOf task ρ content.dataset content.labels) content.dataset text)
 IsWritten file (compare first second) settings found text = (found ≡ None) × AreBothAccepted (file first) (file second) (λ content other. IsPairing settings content other text)
-IsWritten file (lean word) settings found text = (found ≡ None) × IfAccepted (file word) (λ content. IsLeaning settings.map content.dataset text)
+IsWritten file (lean word) settings found text = (found ≡ None) × IfAccepted (file word) (λ content. IsLeaning settings.map settings.limit content.dataset text)
 IsWritten file (load n) settings found text = IfLoaded n (λ content. IsRunText settings found (λ ρ. IsSummary ρ content.dataset) content.dataset text)
 
 -- ---- why nothing is written

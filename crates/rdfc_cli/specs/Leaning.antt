@@ -3,33 +3,34 @@ use Rattle.std.specs.Prelude.{◌≡◌, ℕ, Bool, true, false, List, ◌++◌,
 use Rattle.rdf_terms.specs.Lists.{Text, In, numbers_below}
 use Rattle.rdf_terms.specs.Numeral.{numeral}
 use Rattle.rdf_terms.specs.Terms.{Statement}
-use Rattle.rdf_terms.specs.Dataset.{Dataset}
+use Rattle.rdf_terms.specs.Dataset.{Dataset, IsUsed}
 use Rattle.rdf_terms.specs.Document.{statement}
 use Rattle.rdf_terms.specs.CanonicalForm.{canonical_term, canonical_nquads}
 use Rattle.rdf_terms.specs.declared.term.Quad.{Quad}
 use Rattle.rdf_terms.specs.declared.term.Term.{Term}
 use Rattle.rdf_terms.specs.declared.term.Term.TheVariants.{Blank}
-use Rattle.graph_model.specs.Counts.{IsPastSearch}
+use Rattle.graph_model.specs.Counts.{IsPastSearch, IsWithinSearch}
 use Rattle.graph_model.specs.Graphs.{IsGraph, IsEndomorphism, IsImage, IsLean}
 
 -- node k is `e` and k
 abbrev pub node_name : ℕ → Text
 node_name n = codes "e" ++ numeral n
 
--- the map is an endomorphism of the graph, and what it makes of the graph is lean (RDF 1.1 Semantics, section 4)
-pub record IsLeanImage (G : List Statement) (μ : ℕ → Term) (image : List Statement) : Type 0 where
+-- the map is an endomorphism of the graph, and what it makes of the graph is lean (RDF 1.1 Semantics, section 4); each node of that lies in a set that was searched within the limit
+pub record IsLeanImage (G : List Statement) (limit : ℕ) (μ : ℕ → Term) (image : List Statement) : Type 0 where
   pub graph : IsGraph G
   pub endomorphism : IsEndomorphism μ G
   pub is_image : IsImage μ G image
   pub lean : IsLean image
+  pub searched : (n : ℕ) → IsUsed image n → IsWithinSearch image limit n
 
 -- ---- the lean graph
 
 -- the canonical text of a lean image of the graph, whose nodes keep their numbers
-pub record IsLeanText (D : Dataset) (text : Text) : Type 0 where
+pub record IsLeanText (D : Dataset) (limit : ℕ) (text : Text) : Type 0 where
   pub μ : ℕ → Term
   pub image : List Statement
-  pub is_lean_image : IsLeanImage D.statements μ image
+  pub is_lean_image : IsLeanImage D.statements limit μ image
   pub text_is : text ≡ canonical_nquads (record { nodes = D.nodes; statements = image }) node_name
 
 -- ---- the map
@@ -42,18 +43,18 @@ abbrev pub mapped_line : (ℕ → Term) → ℕ → Text
 mapped_line μ n = line_of n (μ n)
 
 -- a line for each node in order, of a map onto a lean image of the graph
-pub record IsLeanMapText (D : Dataset) (text : Text) : Type 0 where
+pub record IsLeanMapText (D : Dataset) (limit : ℕ) (text : Text) : Type 0 where
   pub μ : ℕ → Term
   pub image : List Statement
-  pub is_lean_image : IsLeanImage D.statements μ image
+  pub is_lean_image : IsLeanImage D.statements limit μ image
   pub text_is : text ≡ flat_map (mapped_line μ) (numbers_below D.nodes)
 
 -- ---- the text of the command
 
 -- the map where it is asked for, and else the graph
-abbrev pub IsLeaning : Bool → Dataset → Text → Type 0
-IsLeaning true D text = IsLeanMapText D text
-IsLeaning false D text = IsLeanText D text
+abbrev pub IsLeaning : Bool → ℕ → Dataset → Text → Type 0
+IsLeaning true limit D text = IsLeanMapText D limit text
+IsLeaning false limit D text = IsLeanText D limit text
 
 -- ---- why nothing is written
 

@@ -41,7 +41,7 @@ IsRunStop settings d status = ⊥
 
 -- what `lean` writes of the dataset of this document
 abbrev pub IsLeanOutput : Settings → Document → Output → Type 0
-IsLeanOutput settings d output = (output.unsettled ≡ None) × IsLeaning settings.map (dataset d) output.text
+IsLeanOutput settings d output = (output.unsettled ≡ None) × IsLeaning settings.map settings.limit (dataset d) output.text
 
 -- the status that a run ends with for which there is no lean form
 abbrev pub EndsAs : LeanStop → ℕ → Status → Type 0

@@ -1,5 +1,5 @@
 //! The texts of a lean form: the lean graph, and the map onto it.
-ghost use Rattle.std.specs.Prelude.{◌≡◌, ◌++◌, ◌<◌, length, IfOk, IfErr, OnOk};
+ghost use Rattle.std.specs.Prelude.{◌≡◌, ℕ, ◌++◌, ◌<◌, length, IfOk, IfErr, OnOk};
 ghost use Rattle.rdf_terms.specs.Document.{dataset as dataset_of, term_at};
 ghost use Rattle.lean_search.specs.Lean.{IsLeanForm, IsLeanStop};
 ghost use Rattle.rdfc_cli.specs.Leaning.{IsLeanText, IsLeanMapText, IsLeaning, line_of};
@@ -13,8 +13,8 @@ use std::alloc::Global;
 
 // The canonical lines of the lean graph in byte order, with node k named `e` and k.
 fn graph_text(alloc: Global, graph: &Dataset, form: &LeanForm) -> Result<Bytes, NoMemory>
-    requires { IsLeanForm graph.now form.now }
-    ensures { IfOk result (IsLeanText (dataset_of graph.now)) }
+    requires { (limit : ℕ) × IsLeanForm graph.now limit form.now }
+    ensures { (limit : ℕ) → IsLeanForm graph.now limit form.now → IfOk result (IsLeanText (dataset_of graph.now) limit) }
 {
     // They tell that the numbers of the quads are those of terms.
     let _quads = graph.quads();
@@ -51,8 +51,8 @@ fn push_mapped_number(
 // A line for each node in order: its name, a space, and the term that it is mapped to as it stands in a canonical
 // line, with node k named `e` and k.
 fn map_text(alloc: Global, graph: &Dataset, form: &LeanForm) -> Result<Bytes, NoMemory>
-    requires { IsLeanForm graph.now form.now }
-    ensures { IfOk result (IsLeanMapText (dataset_of graph.now)) }
+    requires { (limit : ℕ) × IsLeanForm graph.now limit form.now }
+    ensures { (limit : ℕ) → IsLeanForm graph.now limit form.now → IfOk result (IsLeanMapText (dataset_of graph.now) limit) }
 {
     let map = form.map.as_slice();
     let mut out = Vec::new(alloc);
@@ -68,7 +68,7 @@ pub(crate) fn lean_text(
     settings: Settings,
     graph: &Dataset,
 ) -> Result<Bytes, LeanStop>
-    ensures text { IfOk result (IsLeaning settings.map (dataset_of graph.now)) }
+    ensures text { IfOk result (IsLeaning settings.map settings.limit (dataset_of graph.now)) }
     ensures stop { IfErr result (IsLeanStop graph.now settings.limit) }
 {
     let form = lean(alloc, graph, settings.limit)?;

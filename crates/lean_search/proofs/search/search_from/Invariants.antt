@@ -6,5 +6,5 @@ use Rattle.lean_search.proofs.search.search_from.Given as goal
 abbrev pub invariant-loop-start : goal.invariant-loop-start
 invariant-loop-start l = record {
   room : IsRoom l.graph l.room;
-  underway : IsUnderway l.graph (state_of l.room) (mark_at l.settled) l.start;
+  underway : IsUnderway l.graph l.limit (state_of l.room) (mark_at l.settled) l.start;
 }

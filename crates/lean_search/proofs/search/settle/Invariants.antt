@@ -7,7 +7,7 @@ use Rattle.lean_search.proofs.search.settle.Given as goal
 abbrev pub invariant-turns : goal.invariant-turns
 invariant-turns l = record {
   room : IsRoom l.graph l.room;
-  underway : IsUnderway l.graph (state_of l.room) (mark_at l.settled) l.start;
+  underway : IsUnderway l.graph l.limit (state_of l.room) (mark_at l.settled) l.start;
   unsettled : mark_at l.settled l.start ≡ false;
 }
 

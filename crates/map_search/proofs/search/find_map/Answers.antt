@@ -1,7 +1,7 @@
-use Rattle.std.proofs.Common.{◌≡◌, ℕ, List, ◌+◌, ◌-◌, ◌*◌, ◌<◌, ◌≤◌, ◌∷◌, [], ◌++◌, length, reverse, refl, sym, ap, ◌∙◌, subst, arith, length-append}
-use Rattle.map_search.specs.Maps.{HasMore, IsNext, NoneFits}
+use Rattle.std.proofs.Common.{◌≡◌, ℕ, List, suc, ◌+◌, ◌-◌, ◌*◌, ◌<◌, ◌≤◌, ◌∷◌, [], ◌++◌, length, reverse, refl, sym, ap, ◌∙◌, subst, arith, length-append}
+use Rattle.map_search.specs.Ends.{IsFound}
 use Rattle.map_search.proofs.Underway.{Underway}
-use Rattle.map_search.proofs.Steps.{State, total, at_start, past_none, more, go_deeper, pass, past_limit, go_back, nothing_left, room}
+use Rattle.map_search.proofs.Steps.{State, total, at_start, past_none, more, go_deeper, pass, past_limit, found, go_back, nothing_left}
 use Rattle.map_search.proofs.search.find_map.Goals as goal
 
 pub returns-then-limit-eq0 : goal.returns-then-limit-eq0
@@ -27,7 +27,7 @@ returns-in-None-pop g c =
     let n = rw c.as_slice.ensures.value at c.in-None.ensures.none in
     let e : c.maps.images.items ≡ [] = nil c.maps.images.items (sym (ap length c.as_slice.ensures.value) ∙ c.as_slice.ensures.len ∙ c.in-None-pop.ensures.cases.0) in
     let u = subst (λ k. Underway (g.P.Problem.bound c.args.problem.now) (g.P.Problem.fits c.args.problem.now) k (g.P.Problem.sought c.args.problem.now) (reverse c.maps.images.items) c.maps.from c.maps.tried) c.places-places.ensures.places c.maps.invariant.underway in
-    nothing_left (g.P.Problem.bound c.args.problem.now) (g.P.Problem.fits c.args.problem.now) (g.P.Problem.places c.args.problem.now) (g.P.Problem.sought c.args.problem.now) c.maps.images.items c.maps.from c.maps.tried u e n
+    nothing_left (g.P.Problem.bound c.args.problem.now) (g.P.Problem.fits c.args.problem.now) (g.P.Problem.places c.args.problem.now) (g.P.Problem.sought c.args.problem.now) c.maps.images.items c.maps.from c.maps.tried c.args.limit u e n c.maps.invariant.limit
 
 pub maps-preserved-in-Some-pop : goal.maps-preserved-in-Some-pop
 maps-preserved-in-Some-pop g c =
@@ -45,6 +45,17 @@ returns-then-tried-limit g c =
     let n = rw c.as_slice.ensures.value at c.in-Some.ensures.some in
     let u = subst (λ k. Underway (g.P.Problem.bound c.args.problem.now) (g.P.Problem.fits c.args.problem.now) k (g.P.Problem.sought c.args.problem.now) (reverse c.maps.images.items) c.maps.from c.maps.tried) c.places-places.ensures.places c.maps.invariant.underway in
     past_limit (g.P.Problem.bound c.args.problem.now) (g.P.Problem.fits c.args.problem.now) (g.P.Problem.places c.args.problem.now) (g.P.Problem.sought c.args.problem.now) c.maps.images.items c.maps.from c.maps.tried u c.in-Some.image c.args.limit n c.if-tried-limit.true
+
+pub returns-then-is_sought : goal.returns-then-is_sought
+returns-then-is_sought g c =
+    let n = rw c.as_slice.ensures.value at c.in-Some.ensures.some in
+    let items = c.in_ok-push-in-Some.ensures.items in
+    let l : length c.push.new.self.items ≡ length c.maps.images.items + 1 = ap length items ∙ length-append c.maps.images.items (c.in-Some.image ∷ []) in
+    let u = subst (λ k. Underway (g.P.Problem.bound c.args.problem.now) (g.P.Problem.fits c.args.problem.now) k (g.P.Problem.sought c.args.problem.now) (reverse c.maps.images.items) c.maps.from c.maps.tried) c.places-places.ensures.places c.maps.invariant.underway in
+    let few : c.maps.tried < c.args.limit = (let a = c.maps.invariant.limit in let b = c.if-tried-limit.false in omega arith) in
+    let whole : suc (length c.maps.images.items) ≡ g.P.Problem.places c.args.problem.now = (let r = c.maps.invariant.room in let f = c.if-len-places.false in let p = c.places-places.ensures.places in omega arith) in
+    subst (IsFound (g.P.Problem.bound c.args.problem.now) (g.P.Problem.fits c.args.problem.now) (g.P.Problem.places c.args.problem.now) (g.P.Problem.sought c.args.problem.now) c.args.limit) (sym items)
+    (found (g.P.Problem.bound c.args.problem.now) (g.P.Problem.fits c.args.problem.now) (g.P.Problem.places c.args.problem.now) (g.P.Problem.sought c.args.problem.now) c.maps.images.items c.maps.from c.maps.tried u c.in-Some.image c.args.limit n few whole (sym (ap (g.P.Problem.sought c.args.problem.now) (c.as_slice-else-len-places.ensures.value ∙ items)) ∙ sym c.in_ok-is_sought-in-Some.ensures ∙ c.if-is_sought.true))
 
 -- one map more is tried, and the images are at most one more
 falls : (total tried before after : ℕ) → tried < total → after ≤ before + 1 → 2 * (total - (tried + 1)) + after < 2 * (total - tried) + before

@@ -17,7 +17,7 @@ loop-node-preserved c =
     ∙ one_more_line line c.loop-node.node
 
 pub returns : goal.returns
-returns c =
+returns c limit lean =
     let line = mapped_line (map_by c.args.graph.now.terms c.args.form.now.map) in
     let all : c.loop-node.node ≡ length c.args.graph.now.labels = (let a = c.loop-node-test.false in let b = c.loop-node.auto.node-end in let n = c.node_count-node-end.ensures.count in omega arith) in
-    is_map_text c.args.graph.now c.args.form.now c.requires _ (c.new.ensures ∙ c.loop-node.invariant ∙ ap (λ n. flat_map line (numbers_below n)) all)
+    is_map_text c.args.graph.now limit c.args.form.now lean _ (c.new.ensures ∙ c.loop-node.invariant ∙ ap (λ n. flat_map line (numbers_below n)) all)
