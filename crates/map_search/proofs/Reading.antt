@@ -1,26 +1,15 @@
 -- The maps that a search goes through are exactly those that fit, each once.
 use Rattle.std.proofs.Common.{◌≡◌, ℕ, zero, suc, ◌+◌, ◌-◌, ◌<◌, ◌≤◌, ◌⊎◌, ◌==◌, Bool, true, false, if◌then◌else◌, List, [], ◌∷◌, ◌++◌, length, reverse, map, All, refl, sym, ap, ◌∙◌, subst, inl, inr, arith, true≢false, eq-eqb}
 use Rattle.std.proofs.lemmas.Bool.{eqb-true}
-use Rattle.std.proofs.lemmas.List.{reverse-reverse, length-reverse}
+use Rattle.std.proofs.lemmas.List.{reverse-reverse, length-reverse, length-map}
 use Rattle.rdf_terms.specs.Lists.{In, AreDistinct}
 use Rattle.rdf_terms.proofs.Membership.{In-append, In-append_left, In-append_right, In-map, from_In-map}
 use Rattle.map_search.specs.Maps.{FitBackwards, IsMap, HasMore}
 use Rattle.map_search.proofs.Tree.{branches, visits, visits-first}
-use Rattle.rdf_terms.proofs.MadeLists.{All-from_each}
-
-AreDistinct-append : {A : Type 0} (xs ys : List A) → AreDistinct xs → AreDistinct ys → ((x : A) → In x xs → In x ys → ⊥) → AreDistinct (xs ++ ys)
-AreDistinct-append [] ys d e apart = e
-AreDistinct-append (x ∷ xs) ys d e apart = (λ h. elim (In-append xs ys x h) [ inl l ↦ d.0 l | inr r ↦ apart x (inl refl) r ], AreDistinct-append xs ys d.1 e (λ z a b. apart z (inr a) b))
+use Rattle.rdf_terms.proofs.MadeLists.{All-from_each, AreDistinct-append, AreDistinct-map}
 
 AreDistinct-reversed : (xs : List (List ℕ)) → AreDistinct xs → AreDistinct (map reverse xs)
-AreDistinct-reversed [] d = tt
-AreDistinct-reversed (x ∷ xs) d = (apart, AreDistinct-reversed xs d.1)
-  where
-    apart : ¬ (In (reverse x) (map reverse xs))
-    apart h = by (from_In-map reverse xs (reverse x) h)
-      where
-        by : ((y : List ℕ) × In y xs × (reverse x ≡ reverse y)) → ⊥
-        by p = d.0 (subst (λ z. In z xs) (sym (sym (reverse-reverse x) ∙ ap reverse p.2 ∙ reverse-reverse p.0)) p.1)
+AreDistinct-reversed xs d = AreDistinct-map reverse xs (λ x y i j e. sym (reverse-reverse x) ∙ ap reverse e ∙ reverse-reverse y) d
 
 -- the image of place k on a path
 image_at : ℕ → List ℕ → ℕ
@@ -40,22 +29,29 @@ image_at-before k t path l = by (length path == k) refl
     by false e = rw e refl
 
 module _ (bound : ℕ) (fits : List ℕ → ℕ → Bool) where
-  from_branches : (sub : List ℕ → List (List ℕ)) (path q : List ℕ) (from left : ℕ) → In q (branches bound fits sub path from left) → (s : ℕ) × (from ≤ s) × (s < from + left) × (fits (reverse path) s ≡ true) × In q (sub (s ∷ path))
+  from_branches : (sub : List ℕ → List (List ℕ)) (path q : List ℕ) (from left : ℕ) → In q (branches bound fits sub path from left)
+      → (s : ℕ) × (from ≤ s) × (s < from + left) × (fits (reverse path) s ≡ true) × In q (sub (s ∷ path))
   unfolding branches
   from_branches sub path q from zero h = absurd h
-  from_branches sub path q from (suc left) h = by (from_branches sub path q (suc from) left) (fits (reverse path) from) refl (In-append (if fits (reverse path) from then sub (from ∷ path) else []) (branches bound fits sub path (suc from) left) q h)
+  from_branches sub path q from (suc left) h =
+      by (from_branches sub path q (suc from) left) (fits (reverse path) from) refl
+      (In-append (if fits (reverse path) from then sub (from ∷ path) else []) (branches bound fits sub path (suc from) left) q h)
     where
-      by : (In q (branches bound fits sub path (suc from) left) → (s : ℕ) × (suc from ≤ s) × (s < suc from + left) × (fits (reverse path) s ≡ true) × In q (sub (s ∷ path))) → (b : Bool) → fits (reverse path) from ≡ b → In q (if fits (reverse path) from then sub (from ∷ path) else []) ⊎ In q (branches bound fits sub path (suc from) left) → (s : ℕ) × (from ≤ s) × (s < from + suc left) × (fits (reverse path) s ≡ true) × In q (sub (s ∷ path))
+      by : (In q (branches bound fits sub path (suc from) left) → (s : ℕ) × (suc from ≤ s) × (s < suc from + left) × (fits (reverse path) s ≡ true) × In q (sub (s ∷ path))) → (b : Bool)
+          → fits (reverse path) from ≡ b → In q (if fits (reverse path) from then sub (from ∷ path) else []) ⊎ In q (branches bound fits sub path (suc from) left)
+          → (s : ℕ) × (from ≤ s) × (s < from + suc left) × (fits (reverse path) s ≡ true) × In q (sub (s ∷ path))
       by ih b e (inr i) = let p = ih i in (p.0, (let l = p.1 in omega arith), (let l = p.2 in omega arith), p.3, p.4)
       by ih true e (inl i) = let j = rw e at i in (from, omega arith, omega arith, e, j)
       by ih false e (inl i) = let j = rw e at i in absurd j
 
-  to_branches : (sub : List ℕ → List (List ℕ)) (path q : List ℕ) (from left s : ℕ) → from ≤ s → s < from + left → fits (reverse path) s ≡ true → In q (sub (s ∷ path)) → In q (branches bound fits sub path from left)
+  to_branches : (sub : List ℕ → List (List ℕ)) (path q : List ℕ) (from left s : ℕ) → from ≤ s → s < from + left → fits (reverse path) s ≡ true → In q (sub (s ∷ path))
+      → In q (branches bound fits sub path from left)
   unfolding branches
   to_branches sub path q from zero s a b f i = absurd (omega arith)
   to_branches sub path q from (suc left) s a b f i = by (λ l. to_branches sub path q (suc from) left s l (omega arith) f i) (from == s) refl
     where
-      by : (suc from ≤ s → In q (branches bound fits sub path (suc from) left)) → (c : Bool) → (from == s) ≡ c → In q ((if fits (reverse path) from then sub (from ∷ path) else []) ++ branches bound fits sub path (suc from) left)
+      by : (suc from ≤ s → In q (branches bound fits sub path (suc from) left)) → (c : Bool) → (from == s) ≡ c
+          → In q ((if fits (reverse path) from then sub (from ∷ path) else []) ++ branches bound fits sub path (suc from) left)
       by ih true e =
           let same : from ≡ s = eqb-true from s e in
           let g : fits (reverse path) from ≡ true = rw same f in
@@ -123,7 +119,8 @@ module _ (bound : ℕ) (fits : List ℕ → ℕ → Bool) where
           let behind : suc from ≤ p.0 = p.1 in
           omega arith
 
-      by : AreDistinct (branches bound fits (visits bound fits n) path (suc from) left) → (b : Bool) → fits (reverse path) from ≡ b → AreDistinct ((if fits (reverse path) from then visits bound fits n (from ∷ path) else []) ++ branches bound fits (visits bound fits n) path (suc from) left)
+      by : AreDistinct (branches bound fits (visits bound fits n) path (suc from) left) → (b : Bool) → fits (reverse path) from ≡ b
+          → AreDistinct ((if fits (reverse path) from then visits bound fits n (from ∷ path) else []) ++ branches bound fits (visits bound fits n) path (suc from) left)
       by ih true e = rw e (AreDistinct-append (visits bound fits n (from ∷ path)) (branches bound fits (visits bound fits n) path (suc from) left) (each from) ih later)
       by ih false e = rw e ih
 
@@ -141,13 +138,9 @@ module _ (bound : ℕ) (fits : List ℕ → ℕ → Bool) where
     maps = map reverse (visits bound fits places []);
     distinct = AreDistinct-reversed (visits bound fits places []) (visits-distinct places []);
     are_maps = All-from_each _ (map reverse (visits bound fits places [])) each;
-    more = subst (λ n. limit < n) (sym (length-mapped (visits bound fits places []))) more;
+    more = subst (λ n. limit < n) (sym (length-map (visits bound fits places []) reverse)) more;
   }
     where
-      length-mapped : (xs : List (List ℕ)) → length (map reverse xs) ≡ length xs
-      length-mapped [] = refl
-      length-mapped (x ∷ xs) = ap suc (length-mapped xs)
-
       each : (images : List ℕ) → In images (map reverse (visits bound fits places [])) → IsMap bound fits images × (length images ≤ places)
       each images h = by (from_In-map reverse (visits bound fits places []) images h)
         where

@@ -42,7 +42,9 @@ module _ (bound : ℕ) (fits : List ℕ → ℕ → Bool) (places : ℕ) (sought
     pub deeper : (t : ℕ) → IsNext bound (fits (reverse path)) from t → suc (length path) < places → Underway bound fits places sought (t ∷ path) 0 (tried + 1)
     deeper t n room = by u.r u.places_are u.count u.left
       where
-        by : (r : ℕ) → places ≡ suc (length path + r) → tried + length (pending bound fits r path from) ≡ length (visits bound fits places []) → ((p : List ℕ) → In p (visits bound fits places []) → length p ≡ places → sought (reverse p) ≡ true → In p (pending bound fits r path from)) → Underway bound fits places sought (t ∷ path) 0 (tried + 1)
+        by : (r : ℕ) → places ≡ suc (length path + r) → tried + length (pending bound fits r path from) ≡ length (visits bound fits places [])
+            → ((p : List ℕ) → In p (visits bound fits places []) → length p ≡ places → sought (reverse p) ≡ true → In p (pending bound fits r path from))
+            → Underway bound fits places sought (t ∷ path) 0 (tried + 1)
         by zero e count left = absurd (omega arith)
         by (suc r) e count left =
             let v = pending-deeper bound fits r path from t n in
@@ -57,7 +59,9 @@ module _ (bound : ℕ) (fits : List ℕ → ℕ → Bool) (places : ℕ) (sought
     pub passed : (t : ℕ) → IsNext bound (fits (reverse path)) from t → places ≤ suc (length path) → sought (reverse (t ∷ path)) ≡ false → Underway bound fits places sought path (suc t) (tried + 1)
     passed t n full unsought = by u.r u.places_are u.count u.left
       where
-        by : (r : ℕ) → places ≡ suc (length path + r) → tried + length (pending bound fits r path from) ≡ length (visits bound fits places []) → ((p : List ℕ) → In p (visits bound fits places []) → length p ≡ places → sought (reverse p) ≡ true → In p (pending bound fits r path from)) → Underway bound fits places sought path (suc t) (tried + 1)
+        by : (r : ℕ) → places ≡ suc (length path + r) → tried + length (pending bound fits r path from) ≡ length (visits bound fits places [])
+            → ((p : List ℕ) → In p (visits bound fits places []) → length p ≡ places → sought (reverse p) ≡ true → In p (pending bound fits r path from))
+            → Underway bound fits places sought path (suc t) (tried + 1)
         by (suc r) e count left = absurd (omega arith)
         by zero e count left =
             let v = pending-whole bound fits path from t n in
@@ -69,7 +73,8 @@ module _ (bound : ℕ) (fits : List ℕ → ℕ → Bool) (places : ℕ) (sought
               left = λ p i whole s. (let j = subst (λ w. In p w) v (left p i whole s) in elim j [ inl z ↦ absurd (true≢false (sym s ∙ ap (λ w. sought (reverse w)) z ∙ unsought)) | inr h ↦ h ]);
             }
 
-  pub back : (x : ℕ) (below : List ℕ) (from tried : ℕ) → Underway bound fits places sought (x ∷ below) from tried → NoneFits bound (fits (reverse (x ∷ below))) from → Underway bound fits places sought below (suc x) tried
+  pub back : (x : ℕ) (below : List ℕ) (from tried : ℕ) → Underway bound fits places sought (x ∷ below) from tried → NoneFits bound (fits (reverse (x ∷ below))) from
+      → Underway bound fits places sought below (suc x) tried
   back x below from tried u n =
       let v = pending-back bound fits u.r x below from n in
       record {
@@ -80,5 +85,6 @@ module _ (bound : ℕ) (fits : List ℕ → ℕ → Bool) (places : ℕ) (sought
         left = λ p i whole s. subst (λ w. In p w) v (u.left p i whole s);
       }
 
-  pub ended : (from tried : ℕ) → Underway bound fits places sought [] from tried → NoneFits bound (fits (reverse [])) from → (p : List ℕ) → In p (visits bound fits places []) → length p ≡ places → ¬ (sought (reverse p) ≡ true)
+  pub ended : (from tried : ℕ) → Underway bound fits places sought [] from tried → NoneFits bound (fits (reverse [])) from → (p : List ℕ) → In p (visits bound fits places []) → length p ≡ places
+      → ¬ (sought (reverse p) ≡ true)
   ended from tried u n p i whole s = subst (λ w. In p w) (pending-end bound fits u.r from n) (u.left p i whole s)
