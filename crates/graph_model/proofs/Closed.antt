@@ -2,30 +2,22 @@
 use Rattle.std.proofs.Common.{◌≡◌, ℕ, ◌<◌, ◌⊎◌, List, [], ◌∷◌, ◌++◌, refl, sym, ap, subst, inl, inr, arith, append_assoc}
 use Rattle.rdf_terms.specs.Lists.{In}
 use Rattle.rdf_terms.specs.Terms.{Statement}
+use Rattle.std.proofs.lemmas.Bool.{cases_eq}
+use Rattle.std.proofs.lemmas.List.{append-nil}
 use Rattle.graph_model.specs.Components.{MayFollow, WalksOn, IsComponentWalk, IsClosed}
-
-three : (x y : ℕ) → (x < y) ⊎ ((x ≡ y) ⊎ (y < x))
-three x y = grind arith
-
-same_or_other : (x y : ℕ) → (x ≡ y) ⊎ (¬ (x ≡ y))
-same_or_other x y = elim (three x y) [ inl l ↦ inr (λ e. omega arith) | inr h ↦ elim h [ inl e ↦ inl e | inr g ↦ inr (λ e. omega arith) ] ]
 
 pub decide_in : (n : ℕ) (xs : List ℕ) → In n xs ⊎ (¬ (In n xs))
 decide_in n [] = inr (λ h. h)
-decide_in n (x ∷ xs) = by (same_or_other n x) (decide_in n xs)
+decide_in n (x ∷ xs) = by (cases_eq n x) (decide_in n xs)
   where
-    by : (n ≡ x) ⊎ (¬ (n ≡ x)) → In n xs ⊎ (¬ (In n xs)) → In n (x ∷ xs) ⊎ (¬ (In n (x ∷ xs)))
+    by : (n ≡ x) ⊎ (n ≡ x → ⊥) → In n xs ⊎ (¬ (In n xs)) → In n (x ∷ xs) ⊎ (¬ (In n (x ∷ xs)))
     by (inl e) d = inl (inl e)
     by (inr o) (inl h) = inl (inr h)
     by (inr o) (inr m) = inr (λ h. elim h [ inl e ↦ o e | inr i ↦ m i ])
 
-pub append_nil : (xs : List ℕ) → xs ++ [] ≡ xs
-append_nil [] = refl
-append_nil (x ∷ xs) = ap (λ w. x ∷ w) (append_nil xs)
-
 -- nothing follows the whole of a walk
 pub ended : (G : List Statement) (taken rest : List ℕ) → WalksOn G taken rest → (y : ℕ) → ¬ (MayFollow G (taken ++ rest) y)
-ended G taken [] w y = subst (λ l. ¬ (MayFollow G l y)) (sym (append_nil taken)) (w y)
+ended G taken [] w y = subst (λ l. ¬ (MayFollow G l y)) (sym (append-nil taken)) (w y)
 ended G taken (x ∷ rest) w y = subst (λ l. ¬ (MayFollow G l y)) (append_assoc taken (x ∷ []) rest) (ended G (taken ++ x ∷ []) rest w.1 y)
 
 pub components_are_closed : (G : List Statement) (walk : List ℕ) → IsComponentWalk G walk → IsClosed G walk

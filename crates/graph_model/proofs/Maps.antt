@@ -7,6 +7,7 @@ use Rattle.rdf_terms.specs.declared.term.Term.{Term}
 use Rattle.rdf_terms.specs.declared.term.Term.TheVariants.{Iri, Blank, Literal}
 use Rattle.rdf_terms.proofs.Membership.{In-map, from_In-map}
 use Rattle.graph_model.specs.Graphs.{mapped, mapped_triple, composed, CarriesInto, IsInstance, IsLean, IsProperPart, IsReached}
+use Rattle.std.proofs.lemmas.Bool.{or_left, or_right, or_cases}
 use Rattle.graph_model.specs.Laws.{IsShrunk}
 
 pub eqb-itself : (n : ℕ) → (n == n) ≡ true
@@ -22,14 +23,6 @@ mapped-kept μ (Iri t) h = refl
 mapped-kept μ (Blank n) h = h n (eqb-itself n)
 mapped-kept μ (Literal l) h = refl
 
-or_left : (a b : Bool) → a ≡ true → (a || b) ≡ true
-or_left true b e = refl
-or_left false b e = absurd (true≢false (sym e))
-
-or_right : (a b : Bool) → b ≡ true → (a || b) ≡ true
-or_right true b e = refl
-or_right false b e = e
-
 pub by_subject : (st : Statement) (n : ℕ) → is_node n st.subject ≡ true → mentions n st ≡ true
 by_subject st n e = or_left (is_node n st.subject) (is_node n st.object || is_named_by n st.graph_name) e
 
@@ -38,10 +31,6 @@ by_object st n e = or_right (is_node n st.subject) (is_node n st.object || is_na
 
 pub by_name : (st : Statement) (n : ℕ) → is_named_by n st.graph_name ≡ true → mentions n st ≡ true
 by_name st n e = or_right (is_node n st.subject) (is_node n st.object || is_named_by n st.graph_name) (or_right (is_node n st.object) (is_named_by n st.graph_name) e)
-
-pub or_cases : (a b : Bool) → (a || b) ≡ true → (a ≡ true) ⊎ (b ≡ true)
-or_cases true b e = inl refl
-or_cases false b e = inr e
 
 pub mapped_triple-same : (μ ν : ℕ → Term) (st : Statement) → ((n : ℕ) → mentions n st ≡ true → μ n ≡ ν n) → mapped_triple μ st ≡ mapped_triple ν st
 mapped_triple-same μ ν st h =

@@ -1,4 +1,5 @@
--- Maps of blank nodes to terms, and what they make of a graph: instances, endomorphisms, lean graphs (RDF 1.1 Semantics, section 4).
+-- Maps of blank nodes to terms, and what they make of a graph: instances, endomorphisms, lean graphs (RDF 1.1
+-- Semantics, section 4).
 use Rattle.std.specs.Prelude.{◌≡◌, ℕ, List, map, All, None}
 use Rattle.rdf_terms.specs.Lists.{In, AreDistinct}
 use Rattle.rdf_terms.specs.Terms.{Statement}
@@ -59,6 +60,7 @@ pub record IsProperPart (H G : List Statement) : Type 0 where
   pub there : In triple G
   pub missing : ¬ (In triple H)
 
--- every endomorphism carries G onto the whole of G, so no instance of G is a proper part of it (RDF 1.1 Semantics, section 4)
+-- every endomorphism carries G onto the whole of G, so no instance of G is a proper part of it (RDF 1.1 Semantics,
+-- section 4)
 abbrev pub IsLean : List Statement → Type 0
 IsLean G = (μ : ℕ → Term) → IsEndomorphism μ G → (st : Statement) → In st G → IsReached μ G st

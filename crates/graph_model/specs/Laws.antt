@@ -10,7 +10,8 @@ use Rattle.graph_model.specs.Counts.{IsCount, HasMoreMaps, HasMoreBeginnings}
 
 -- maps of graphs compose
 abbrev pub MapsCompose : Type 0
-MapsCompose = (μ ν : ℕ → Term) (G H I : List Statement) → CarriesInto μ G H → CarriesInto ν H I → CarriesInto (composed μ ν) G I
+MapsCompose =
+    (μ ν : ℕ → Term) (G H I : List Statement) → CarriesInto μ G H → CarriesInto ν H I → CarriesInto (composed μ ν) G I
 
 -- an endomorphism and then one of its image give an endomorphism, and the image of the whole is the image of the second
 pub record IsShrunk (G : List Statement) (μ : ℕ → Term) (H : List Statement) : Type 0 where
@@ -18,7 +19,8 @@ pub record IsShrunk (G : List Statement) (μ : ℕ → Term) (H : List Statement
   pub is_image : IsImage μ G H
 
 abbrev pub EndomorphismsCompose : Type 0
-EndomorphismsCompose = (G H I : List Statement) (μ ν : ℕ → Term) → IsShrunk G μ H → IsShrunk H ν I → IsShrunk G (composed μ ν) I
+EndomorphismsCompose =
+    (G H I : List Statement) (μ ν : ℕ → Term) → IsShrunk G μ H → IsShrunk H ν I → IsShrunk G (composed μ ν) I
 
 -- the image of an endomorphism is a part of the graph, so its nodes are nodes of the graph
 abbrev pub ImagesLieWithin : Type 0
@@ -36,14 +38,17 @@ LeanIsTight = (G : List Statement) (nodes : List ℕ) → IsLean G → IsTight G
 abbrev pub ComponentsAreClosed : Type 0
 ComponentsAreClosed = (G : List Statement) (walk : List ℕ) → IsComponentWalk G walk → IsClosed G walk
 
--- a triple that mentions the nodes of a component and is missed by an endomorphism of the whole graph is missed by a map of the component into the graph that keeps all other nodes
+-- a triple that mentions the nodes of a component and is missed by an endomorphism of the whole graph is missed by a
+-- map of the component into the graph that keeps all other nodes
 pub record IsMissedBy (G : List Statement) (walk : List ℕ) (st : Statement) : Type 0 where
   pub μ : ℕ → Term
   pub is_map : IsMapOf G walk μ
   pub missed : ¬ (IsReached μ G st)
 
 abbrev pub ComponentLaw : Type 0
-ComponentLaw = (G : List Statement) (walk : List ℕ) (μ : ℕ → Term) (st : Statement) → IsComponentWalk G walk → IsEndomorphism μ G → IsTripleOf G walk st → ¬ (IsReached μ G st) → IsMissedBy G walk st
+ComponentLaw =
+    (G : List Statement) (walk : List ℕ) (μ : ℕ → Term) (st : Statement) → IsComponentWalk G walk → IsEndomorphism μ G
+    → IsTripleOf G walk st → ¬ (IsReached μ G st) → IsMissedBy G walk st
 
 -- some closed set of nodes with the node is tight
 pub record IsInTight (G : List Statement) (n : ℕ) : Type 0 where
@@ -54,11 +59,14 @@ pub record IsInTight (G : List Statement) (n : ℕ) : Type 0 where
 
 -- a graph in which each node lies in a tight component is lean
 abbrev pub TightComponentsAreLean : Type 0
-TightComponentsAreLean = (G : List Statement) → ((st : Statement) (n : ℕ) → In st G → mentions n st ≡ true → IsInTight G n) → IsLean G
+TightComponentsAreLean =
+    (G : List Statement) → ((st : Statement) (n : ℕ) → In st G → mentions n st ≡ true → IsInTight G n) → IsLean G
 
 -- a tight set of nodes stays tight in a part of the graph that keeps its triples
 abbrev pub TightStaysTight : Type 0
-TightStaysTight = (G H : List Statement) (nodes : List ℕ) → LiesWithin H G → ((st : Statement) → IsTripleOf G nodes st → In st H) → IsTight G nodes → IsTight H nodes
+TightStaysTight =
+    (G H : List Statement) (nodes : List ℕ) → LiesWithin H G → ((st : Statement) → IsTripleOf G nodes st → In st H)
+    → IsTight G nodes → IsTight H nodes
 
 -- closed and tight, and their maps have no more beginnings than the limit
 pub record IsSettled (G : List Statement) (limit : ℕ) (nodes : List ℕ) : Type 0 where
@@ -72,4 +80,5 @@ SettledStaysSettled = (G I : List Statement) (limit : ℕ) (walk nodes : List �
 
 -- more different partial maps than the limit are told exactly where the count is above it
 abbrev pub CountIsMore : Type 0
-CountIsMore = (G H : List Statement) (walk : List ℕ) (n limit : ℕ) → IsCount G H walk n → HasMoreMaps G H walk limit ↔ (limit < n)
+CountIsMore =
+    (G H : List Statement) (walk : List ℕ) (n limit : ℕ) → IsCount G H walk n → HasMoreMaps G H walk limit ↔ (limit < n)

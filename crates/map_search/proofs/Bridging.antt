@@ -24,6 +24,7 @@ use Rattle.map_search.specs.Numbers.{AreNumbers, Agrees, IsSaidBy, MeansByTerms}
 use Rattle.map_search.specs.declared.search.Ending.{Ending}
 use Rattle.map_search.specs.declared.search.Ending.TheVariants.{Found, Nothing, PastLimit}
 use Rattle.map_search.proofs.Images.{map_of-kept, map_of-same}
+use Rattle.std.proofs.lemmas.Bool.{or_cases}
 use Rattle.rdf_terms.proofs.MadeLists.{All-from_each, each-from_All, AreDistinct-map, map-agree, map-map}
 
 -- ---- the number of a node
@@ -37,7 +38,7 @@ is_node-blank n (Iri t) e = absurd (true≢false (sym e))
 is_node-blank n (Blank m) e = ap Blank (eqb-true m n e)
 is_node-blank n (Literal l) e = absurd (true≢false (sym e))
 
-blank-is_node : (n : ℕ) (t : Term) → t ≡ Blank n → is_node n t ≡ true
+pub blank-is_node : (n : ℕ) (t : Term) → t ≡ Blank n → is_node n t ≡ true
 blank-is_node n t e = ap (is_node n) e ∙ eqb-itself n
 
 at_or_past : (ts : List Term) (n : ℕ) → ((number_of_node ts n < length ts) × (term_at ts (number_of_node ts n) ≡ Blank n)) ⊎ (length ts ≤ number_of_node ts n)
@@ -45,7 +46,9 @@ unfolding number_of_node
 at_or_past [] n = inr (omega arith)
 at_or_past (t ∷ ts) n = by (is_node n t) refl (at_or_past ts n)
   where
-    by : (b : Bool) → is_node n t ≡ b → ((number_of_node ts n < length ts) × (term_at ts (number_of_node ts n) ≡ Blank n)) ⊎ (length ts ≤ number_of_node ts n) → (((if b then 0 else suc (number_of_node ts n)) < suc (length ts)) × (term_at (t ∷ ts) (if b then 0 else suc (number_of_node ts n)) ≡ Blank n)) ⊎ (suc (length ts) ≤ (if b then 0 else suc (number_of_node ts n)))
+    by : (b : Bool) → is_node n t ≡ b → ((number_of_node ts n < length ts) × (term_at ts (number_of_node ts n) ≡ Blank n)) ⊎ (length ts ≤ number_of_node ts n)
+        → (((if b then 0 else suc (number_of_node ts n)) < suc (length ts)) × (term_at (t ∷ ts) (if b then 0 else suc (number_of_node ts n)) ≡ Blank n))
+        ⊎ (suc (length ts) ≤ (if b then 0 else suc (number_of_node ts n)))
     by true e r = inl (omega arith, is_node-blank n t e)
     by false e (inl p) = inl ((let l = p.0 in omega arith), p.1)
     by false e (inr l) = inr (omega arith)
@@ -81,19 +84,31 @@ module _ (terms : List Term) (terms_once : AreDistinct terms) where
   pub by_numbers : (ℕ → ℕ) → ℕ → Term
   by_numbers m n = get_or terms (m (number_of_node terms n)) (Blank n)
 
-  said : (m : ℕ → ℕ) (k : ℕ) (t : Term) → k < length terms → m k < length terms → ((n : ℕ) → t ≡ Blank n → term_at terms k ≡ t) → (((n : ℕ) → ¬ (t ≡ Blank n)) → m k ≡ k) → term_at terms k ≡ t → term_at terms (m k) ≡ mapped (by_numbers m) t
+  said : (m : ℕ → ℕ) (k : ℕ) (t : Term) → k < length terms → m k < length terms → ((n : ℕ) → t ≡ Blank n → term_at terms k ≡ t) → (((n : ℕ) → ¬ (t ≡ Blank n)) → m k ≡ k) → term_at terms k ≡ t
+      → term_at terms (m k) ≡ mapped (by_numbers m) t
   unfolding by_numbers
   said m k (Iri t) l i b o e = ap (term_at terms) (o (λ n f. cc)) ∙ e
   said m k (Literal t) l i b o e = ap (term_at terms) (o (λ n f. cc)) ∙ e
-  said m k (Blank n) l i b o e = elim (at_or_past terms n) [ inl p ↦ (let s : number_of_node terms n ≡ k = number_is (number_of_node terms n) k p.0 l (p.1 ∙ sym e) in ap (term_at terms) (ap m (sym s)) ∙ any_default terms (m (number_of_node terms n)) (Blank 0) (Blank n) (subst (λ w. m w < length terms) (sym s) i)) | inr p ↦ absurd (past_none terms n k p l e) ]
+  said m k (Blank n) l i b o e =
+      elim (at_or_past terms n) [
+        | inl p ↦ (let s : number_of_node terms n ≡ k = number_is (number_of_node terms n) k p.0 l (p.1 ∙ sym e) in ap (term_at terms) (ap m (sym s))
+            ∙ any_default terms (m (number_of_node terms n)) (Blank 0) (Blank n) (subst (λ w. m w < length terms) (sym s) i))
+        | inr p ↦ absurd (past_none terms n k p l e)
+      ]
 
   -- a map of numbers that keeps what is no node
-  pub agrees_by_numbers : (m : ℕ → ℕ) → ((k : ℕ) → k < length terms → m k < length terms) → ((k : ℕ) → k < length terms → ((n : ℕ) → ¬ (term_at terms k ≡ Blank n)) → m k ≡ k) → Agrees terms (by_numbers m) m
+  pub agrees_by_numbers : (m : ℕ → ℕ) → ((k : ℕ) → k < length terms → m k < length terms) → ((k : ℕ) → k < length terms → ((n : ℕ) → ¬ (term_at terms k ≡ Blank n)) → m k ≡ k)
+      → Agrees terms (by_numbers m) m
   agrees_by_numbers m within other = record { within = within; same = λ k l. said m k (term_at terms k) l (within k l) (λ n e. refl) (λ none. other k l none) refl }
 
   pub kept_by_numbers : (m : ℕ → ℕ) (n : ℕ) → ((k : ℕ) → length terms ≤ k → m k ≡ k) → ((k : ℕ) → term_at terms k ≡ Blank n → k < length terms → m k ≡ k) → by_numbers m n ≡ Blank n
   unfolding by_numbers
-  kept_by_numbers m n past other = elim (at_or_past terms n) [ inl p ↦ ap (λ w. get_or terms w (Blank n)) (other (number_of_node terms n) p.1 p.0) ∙ any_default terms (number_of_node terms n) (Blank n) (Blank 0) p.0 ∙ p.1 | inr p ↦ ap (λ w. get_or terms w (Blank n)) (past (number_of_node terms n) p) ∙ past_default terms (number_of_node terms n) (Blank n) p ]
+  kept_by_numbers m n past other =
+      elim (at_or_past terms n) [
+        | inl p ↦ ap (λ w. get_or terms w (Blank n)) (other (number_of_node terms n) p.1 p.0) ∙ any_default terms (number_of_node terms n) (Blank n) (Blank 0) p.0
+            ∙ p.1
+        | inr p ↦ ap (λ w. get_or terms w (Blank n)) (past (number_of_node terms n) p) ∙ past_default terms (number_of_node terms n) (Blank n) p
+      ]
 
   -- ---- a triple and its image, by either
 
@@ -168,14 +183,17 @@ length-front [] (suc n) l = absurd (omega arith)
 length-front (x ∷ xs) (suc n) l = ap suc (length-front xs n (omega arith))
 
 images_are_front : (nodes images : List ℕ) → AreDistinct nodes → length images ≤ length nodes → images ≡ map (map_of nodes images) (take (length images) nodes)
-images_are_front nodes images once front = sym (map_of-same (take (length images) nodes) images (AreDistinct-take (length images) nodes once) (length-front nodes (length images) front)) ∙ map-agree (map_of (take (length images) nodes) images) (map_of nodes images) (take (length images) nodes) (λ k i. map_of-front nodes images k)
+images_are_front nodes images once front =
+    sym (map_of-same (take (length images) nodes) images (AreDistinct-take (length images) nodes once) (length-front nodes (length images) front))
+    ∙ map-agree (map_of (take (length images) nodes) images) (map_of nodes images) (take (length images) nodes) (λ k i. map_of-front nodes images k)
 
 map-take : {A B : Type 0} (f : A → B) (n : ℕ) (xs : List A) → map f (take n xs) ≡ take n (map f xs)
 map-take f zero xs = refl
 map-take f (suc n) [] = refl
 map-take f (suc n) (x ∷ xs) = ap (λ w. f x ∷ w) (map-take f n xs)
 
-same_numbers : (terms : List Term) → AreDistinct terms → (xs ys : List ℕ) → ((k : ℕ) → In k xs → k < length terms) → ((k : ℕ) → In k ys → k < length terms) → map (term_at terms) xs ≡ map (term_at terms) ys → xs ≡ ys
+same_numbers : (terms : List Term) → AreDistinct terms → (xs ys : List ℕ) → ((k : ℕ) → In k xs → k < length terms) → ((k : ℕ) → In k ys → k < length terms)
+    → map (term_at terms) xs ≡ map (term_at terms) ys → xs ≡ ys
 same_numbers terms once [] [] a b e = refl
 same_numbers terms once [] (y ∷ ys) a b e = cc
 same_numbers terms once (x ∷ xs) [] a b e = cc
@@ -216,14 +234,41 @@ module _ (terms : List Term) (H : List Quad) (nodes walk : List ℕ) (are : AreN
   pub touches_walk : (q : Quad) → In q H → TouchesOneOf nodes q → Touches walk (statement terms q)
   touches_walk q there t =
       let p = node_of terms are.terms_once nodes walk are.nodes_are t.node t.there in
-      record { node = p.0; there = p.1; mentioned = elim t.end [ inl e ↦ by_subject (statement terms q) p.0 (blank-is_node p.0 (term_at terms q.s) (ap (term_at terms) (sym e) ∙ p.2)) | inr e ↦ by_object (statement terms q) p.0 (blank-is_node p.0 (term_at terms q.o) (ap (term_at terms) (sym e) ∙ p.2)) ] }
+      record {
+        node = p.0;
+        there = p.1;
+        mentioned = elim t.end [
+          | inl e ↦ by_subject (statement terms q) p.0
+              (blank-is_node p.0 (term_at terms q.s) (ap (term_at terms) (sym e) ∙ p.2))
+          | inr e ↦ by_object (statement terms q) p.0
+              (blank-is_node p.0 (term_at terms q.o) (ap (term_at terms) (sym e) ∙ p.2))
+        ];
+      }
 
   -- a node that a triple mentions is one of its ends
   pub mentioned_end : (q : Quad) → In q H → (n : ℕ) → mentions n (statement terms q) ≡ true → (term_at terms q.s ≡ Blank n) ⊎ (term_at terms q.o ≡ Blank n)
-  mentioned_end q there n m = elim (or_cases (is_node n (term_at terms q.s)) _ m) [ inl s ↦ inl (is_node-blank n (term_at terms q.s) s) | inr r ↦ elim (or_cases (is_node n (term_at terms q.o)) (is_named_by n (graph_name_at terms q.g)) r) [ inl o ↦ inr (is_node-blank n (term_at terms q.o) o) | inr g ↦ absurd (true≢false (sym g ∙ ap (λ w. is_named_by n (graph_name_at terms w)) (are.unnamed q there))) ] ]
+  mentioned_end q there n m =
+      elim (or_cases (is_node n (term_at terms q.s)) _ m) [
+        | inl s ↦ inl
+            (is_node-blank n (term_at terms q.s) s)
+        | inr r ↦ elim (or_cases (is_node n (term_at terms q.o)) (is_named_by n (graph_name_at terms q.g)) r) [
+          | inl o ↦ inr
+              (is_node-blank n (term_at terms q.o) o)
+          | inr g ↦ absurd (true≢false (sym g ∙ ap (λ w. is_named_by n (graph_name_at terms w)) (are.unnamed q there)))
+        ]
+      ]
 
   pub touches_nodes : (q : Quad) → In q H → Touches walk (statement terms q) → TouchesOneOf nodes q
-  touches_nodes q there t = elim (mentioned_end q there t.node t.mentioned) [ inl e ↦ record { node = q.s; there = by_node q.s t.node (are.in_range q there).s e t.there; end = inl refl } | inr e ↦ record { node = q.o; there = by_node q.o t.node (are.in_range q there).o e t.there; end = inr refl } ]
+  touches_nodes q there t =
+      elim (mentioned_end q there t.node t.mentioned) [
+        | inl e ↦ record {
+          node = q.s;
+          there = by_node q.s t.node
+              (are.in_range q there).s e t.there;
+          end = inl refl;
+        }
+        | inr e ↦ record { node = q.o; there = by_node q.o t.node (are.in_range q there).o e t.there; end = inr refl }
+      ]
 
   -- ---- from numbers to terms
 
@@ -256,7 +301,8 @@ module _ (terms : List Term) (H : List Quad) (nodes walk : List ℕ) (are : AreN
 
     pub is_map_of : IsMapOf triples walk (by_numbers terms are.terms_once m)
     is_map_of = record {
-      endomorphism = λ st there. (let p = from_In-map (statement terms) H st there in subst (λ w. In (mapped_triple (by_numbers terms are.terms_once m) w) triples) (sym p.2) ((carried_there terms are.terms_once (by_numbers terms are.terms_once m) m agrees H are.in_range p.0 p.1).0 (all_carried p.0 p.1)));
+      endomorphism = λ st there. (let p = from_In-map (statement terms) H st there in subst (λ w. In (mapped_triple (by_numbers terms are.terms_once m) w) triples) (sym p.2)
+          ((carried_there terms are.terms_once (by_numbers terms are.terms_once m) m agrees H are.in_range p.0 p.1).0 (all_carried p.0 p.1)));
       kept = λ n out. kept_by_numbers terms are.terms_once m n (λ k l. is_map.kept k (λ i. (let w = node_within k i in omega arith))) (λ k e l. is_map.kept k (λ i. out (to_walk k n i e)));
     }
 
@@ -270,7 +316,11 @@ module _ (terms : List Term) (H : List Quad) (nodes walk : List ℕ) (are : AreN
     image_there k i =
         let t : IsInTriple H k = are.used k i in
         let p = from_In-map (statement terms) H (mapped_triple μ (statement terms t.triple)) (is_map.endomorphism (statement terms t.triple) (In-map (statement terms) H t.triple t.there)) in
-        elim t.end [ inl e ↦ here p.0.s (are.in_range p.0 p.1).s (ap (λ w. mapped μ (term_at terms w)) e ∙ ap (λ (st : Statement). st.subject) p.2) | inr e ↦ here p.0.o (are.in_range p.0 p.1).o (ap (λ w. mapped μ (term_at terms w)) e ∙ ap (λ (st : Statement). st.object) p.2) ]
+        elim t.end [
+          | inl e ↦ here p.0.s (are.in_range p.0 p.1).s (ap (λ w. mapped μ (term_at terms w)) e ∙ ap (λ (st : Statement). st.subject) p.2)
+          | inr e ↦ here p.0.o (are.in_range p.0 p.1).o
+              (ap (λ w. mapped μ (term_at terms w)) e ∙ ap (λ (st : Statement). st.object) p.2)
+        ]
       where
         here : (x : ℕ) → x < length terms → mapped μ (term_at terms k) ≡ term_at terms x → In (mapped μ (term_at terms k)) terms
         here x l e = In-at terms x (mapped μ (term_at terms k)) (slice_get-get_or terms x (Blank 0) l ∙ ap Some (sym e))
@@ -300,7 +350,11 @@ module _ (terms : List Term) (H : List Quad) (nodes walk : List ℕ) (are : AreN
 
     pub is_node_map : IsNodeMap H H nodes numbers
     unfolding numbers chosen
-    is_node_map = record { kept = λ k n. kept k n (decide_in k nodes); carries = λ q there t. (carried_there terms are.terms_once μ numbers numbers_agree H are.in_range q there).1 (is_map.endomorphism (statement terms q) (In-map (statement terms) H q there)) }
+    is_node_map = record {
+      kept = λ k n. kept k n (decide_in k nodes);
+      carries = λ q there t. (carried_there terms are.terms_once μ numbers numbers_agree H are.in_range q there).1
+          (is_map.endomorphism (statement terms q) (In-map (statement terms) H q there));
+    }
       where
         kept : (k : ℕ) → (¬ (In k nodes)) → (d : In k nodes ⊎ (¬ (In k nodes))) → chosen k d ≡ k
         kept k n (inl i) = absurd (n i)
@@ -326,7 +380,8 @@ module _ (terms : List Term) (H : List Quad) (nodes walk : List ℕ) (are : AreN
     first_map = by_numbers terms are.terms_once (map_of nodes images)
 
     first_agrees : Agrees terms first_map (map_of nodes images)
-    first_agrees = agrees_by_numbers terms are.terms_once (map_of nodes images) first_within (λ k l none. map_of-kept nodes images k (λ i. (let p = node_of terms are.terms_once nodes walk are.nodes_are k i in none p.0 p.2)))
+    first_agrees = agrees_by_numbers terms are.terms_once (map_of nodes images) first_within
+        (λ k l none. map_of-kept nodes images k (λ i. (let p = node_of terms are.terms_once nodes walk are.nodes_are k i in none p.0 p.2)))
 
     front_are : (n : ℕ) → map (term_at terms) (take n nodes) ≡ map Blank (take n walk)
     front_are n = map-take (term_at terms) n nodes ∙ ap (take n) are.nodes_are ∙ sym (map-take Blank n walk)
@@ -334,7 +389,8 @@ module _ (terms : List Term) (H : List Quad) (nodes walk : List ℕ) (are : AreN
     images_are : map (term_at terms) images ≡ map first_map (take (length images) walk)
     images_are = ap (map (term_at terms)) (images_are_front nodes images are.once partial.within)
         ∙ map-map (term_at terms) (map_of nodes images) (take (length images) nodes)
-        ∙ map-agree (λ k. term_at terms (map_of nodes images k)) (λ k. mapped first_map (term_at terms k)) (take (length images) nodes) (λ k i. first_agrees.same k (node_within k (In-take (length images) nodes k i)))
+        ∙ map-agree (λ k. term_at terms (map_of nodes images k)) (λ k. mapped first_map (term_at terms k)) (take (length images) nodes)
+        (λ k i. first_agrees.same k (node_within k (In-take (length images) nodes k i)))
         ∙ sym (map-map (mapped first_map) (term_at terms) (take (length images) nodes))
         ∙ ap (map (mapped first_map)) (front_are (length images))
         ∙ map-map (mapped first_map) Blank (take (length images) walk)
@@ -342,7 +398,12 @@ module _ (terms : List Term) (H : List Quad) (nodes walk : List ℕ) (are : AreN
     ends_among : (q : Quad) → In q H → MentionsOnly (take (length images) walk) (statement terms q) → EndsAmong nodes (length images) q
     ends_among q there only x e i =
         let p = node_of terms are.terms_once nodes walk are.nodes_are x i in
-        let m : mentions p.0 (statement terms q) ≡ true = elim e [ inl s ↦ by_subject (statement terms q) p.0 (blank-is_node p.0 (term_at terms q.s) (ap (term_at terms) (sym s) ∙ p.2)) | inr o ↦ by_object (statement terms q) p.0 (blank-is_node p.0 (term_at terms q.o) (ap (term_at terms) (sym o) ∙ p.2)) ] in
+        let m : mentions p.0 (statement terms q)
+        ≡ true = elim e [
+          | inl s ↦ by_subject (statement terms q) p.0 (blank-is_node p.0 (term_at terms q.s) (ap (term_at terms) (sym s) ∙ p.2))
+          | inr o ↦ by_object (statement terms q) p.0
+              (blank-is_node p.0 (term_at terms q.o) (ap (term_at terms) (sym o) ∙ p.2))
+        ] in
         let k = number_of terms are.terms_once (take (length images) nodes) (take (length images) walk) (front_are (length images)) p.0 (only p.0 m) in
         subst (λ w. In w (take (length images) nodes)) (number_is terms are.terms_once k.0 x (node_within k.0 (In-take (length images) nodes k.0 k.1)) (node_within x i) (sym k.2 ∙ sym p.2)) k.1
 
@@ -351,21 +412,33 @@ module _ (terms : List Term) (H : List Quad) (nodes walk : List ℕ) (are : AreN
 
     pub partial_by_terms : IsPartialMap triples triples walk (map (term_at terms) images)
     partial_by_terms = record {
-      within = (let a = same_count in let b = partial.within in let c : length nodes ≡ length walk = sym (length-map nodes (term_at terms)) ∙ ap length are.nodes_are ∙ length-map walk Blank in omega arith);
-      ends = All-from_each (IsEnd triples) (map (term_at terms) images) (λ t i. (let p = from_In-map (term_at terms) images t i in end_of t p.0 p.2 (each-from_All (IsEndIn H) images p.0 partial.ends p.1)));
+      within = (let a = same_count in let b = partial.within in let c : length nodes ≡ length walk = sym (length-map nodes (term_at terms)) ∙ ap length are.nodes_are
+          ∙ length-map walk Blank in omega arith);
+      ends = All-from_each (IsEnd triples) (map (term_at terms) images)
+          (λ t i. (let p = from_In-map (term_at terms) images t i in end_of t p.0 p.2 (each-from_All (IsEndIn H) images p.0 partial.ends p.1)));
       μ = first_map;
       images_are = images_are ∙ ap (λ n. map first_map (take n walk)) (sym same_count);
-      carried = λ st t only. (let p = from_In-map (statement terms) H st t.0 in subst (λ w. In (mapped_triple first_map w) triples) (sym p.2) ((carried_there terms are.terms_once first_map (map_of nodes images) first_agrees H are.in_range p.0 p.1).0 (partial.carries p.0 p.1 (touches_nodes p.0 p.1 (subst (Touches walk) p.2 t.1)) (ends_among p.0 p.1 (subst (λ w. MentionsOnly (take (length images) walk) w) p.2 (subst (λ n. MentionsOnly (take n walk) st) same_count only))))));
+      carried = λ st t only. (let p = from_In-map (statement terms) H st t.0 in subst (λ w. In (mapped_triple first_map w) triples) (sym p.2)
+          ((carried_there terms are.terms_once first_map (map_of nodes images) first_agrees H are.in_range p.0 p.1).0
+          (partial.carries p.0 p.1 (touches_nodes p.0 p.1 (subst (Touches walk) p.2 t.1))
+          (ends_among p.0 p.1 (subst (λ w. MentionsOnly (take (length images) walk) w) p.2 (subst (λ n. MentionsOnly (take n walk) st) same_count only))))));
     }
       where
         end_of : (t : Term) (k : ℕ) → t ≡ term_at terms k → IsEndIn H k → IsEnd triples t
-        end_of t k e x = record { triple = statement terms x.triple; there = In-map (statement terms) H x.triple x.there; end = elim x.end [ inl s ↦ inl (e ∙ ap (term_at terms) s) | inr o ↦ inr (e ∙ ap (term_at terms) o) ] }
+        end_of t k e x =
+            record {
+              triple = statement terms x.triple;
+              there = In-map
+                  (statement terms) H x.triple x.there;
+              end = elim x.end [ inl s ↦ inl (e ∙ ap (term_at terms) s) | inr o ↦ inr (e ∙ ap (term_at terms) o) ];
+            }
 
   pub more_maps : (limit : ℕ) → HasMoreNodeMaps H H nodes limit → HasMoreMaps triples triples walk limit
   more_maps limit more = record {
     maps = map (map (term_at terms)) more.maps;
     distinct = AreDistinct-map (map (term_at terms)) more.maps (λ a b i j e. same_numbers terms are.terms_once a b (image_within a (each a i)) (image_within b (each b j)) e) more.distinct;
-    are_maps = All-from_each (IsPartialMap triples triples walk) (map (map (term_at terms)) more.maps) (λ x i. (let p = from_In-map (map (term_at terms)) more.maps x i in subst (IsPartialMap triples triples walk) (sym p.2) (partial_by_terms p.0 (each p.0 p.1))));
+    are_maps = All-from_each (IsPartialMap triples triples walk) (map (map (term_at terms)) more.maps)
+        (λ x i. (let p = from_In-map (map (term_at terms)) more.maps x i in subst (IsPartialMap triples triples walk) (sym p.2) (partial_by_terms p.0 (each p.0 p.1))));
     more = (let a = length-map more.maps (map (term_at terms)) in let b = more.more in omega arith);
   }
     where
@@ -431,5 +504,6 @@ endings_mean_by_terms terms H nodes walk limit (Found images) are m = (said_by t
 endings_mean_by_terms terms H nodes walk limit Nothing are m = (tight terms H nodes walk are m.0, λ more. m.1 (more_beginnings terms H nodes walk are limit more))
 endings_mean_by_terms terms H nodes walk limit PastLimit are m = more_maps terms H nodes walk are limit m
 
-pub agreeing_maps_reach : (terms : List Term) (H : List Quad) (nodes walk : List ℕ) (μ : ℕ → Term) (m : ℕ → ℕ) → AreNumbers terms H nodes walk → Agrees terms μ m → (q : Quad) → In q H → IsReachedBy m H q ↔ IsReached μ (map (statement terms) H) (statement terms q)
+pub agreeing_maps_reach : (terms : List Term) (H : List Quad) (nodes walk : List ℕ) (μ : ℕ → Term) (m : ℕ → ℕ) → AreNumbers terms H nodes walk → Agrees terms μ m → (q : Quad) → In q H
+    → IsReachedBy m H q ↔ IsReached μ (map (statement terms) H) (statement terms q)
 agreeing_maps_reach terms H nodes walk μ m are agrees = reaches terms are.terms_once μ m agrees H are.in_range

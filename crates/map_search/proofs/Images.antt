@@ -19,7 +19,7 @@ use Rattle.map_search.specs.Rows.{meets_all}
 use Rattle.map_search.specs.Pattern.{carried, map_of, IsNodeMap, TouchesOneOf, end_at, Stands, Meets, IsOtherEnd, IsAsked, IsAskedWhole, IsWhole, row_at, AreRows, TellsMeets, TellsMisses, fits_rows, EachIsAsked, ReachesAll, IsEndIn, EndsAmong, IsPartialNodeMap, HasMoreNodeMaps, IsNodeBeginning, HasMoreNodeBeginnings}
 use Rattle.map_search.specs.Laws.{IsSearch, MeansOfEnding}
 use Rattle.map_search.proofs.Linking.{node_map_is_map}
-use Rattle.rdf_terms.proofs.MadeLists.{All-from_each, each-from_All}
+use Rattle.rdf_terms.proofs.MadeLists.{All-from_each, each-from_All, In-get_or, place_within}
 
 -- ---- each image of a map fits behind those before it
 
@@ -38,15 +38,11 @@ module _ (bound : ℕ) (fits : List ℕ → ℕ → Bool) where
       let whole : images ≡ take (suc k) images ++ drop (suc k) images = sym (take-append-drop (suc k) images) in
       let r : reverse images ≡ reverse (drop (suc k) images) ++ reverse (take (suc k) images) = ap reverse whole ∙ reverse-append (take (suc k) images) (drop (suc k) images) in
       let e : reverse (take (suc k) images) ≡ get_or images k 0 ∷ reverse (take k images) = ap reverse (take-suc images k 0 l) ∙ reverse-append (take k images) (get_or images k 0 ∷ []) in
-      let g : FitBackwards bound fits (get_or images k 0 ∷ reverse (take k images)) = subst (FitBackwards bound fits) e (behind (reverse (drop (suc k) images)) (reverse (take (suc k) images)) (subst (FitBackwards bound fits) r f)) in
+      let g : FitBackwards bound fits (get_or images k 0 ∷ reverse (take k images)) = subst (FitBackwards bound fits) e
+      (behind (reverse (drop (suc k) images)) (reverse (take (suc k) images)) (subst (FitBackwards bound fits) r f)) in
       (g.1, ap (λ w. fits w (get_or images k 0)) (sym (reverse-reverse (take k images))) ∙ g.2)
 
 -- ---- the map
-
-In-get_or : (xs : List ℕ) (k : ℕ) → k < length xs → In (get_or xs k 0) xs
-In-get_or [] k l = absurd (omega arith)
-In-get_or (x ∷ xs) zero l = inl refl
-In-get_or (x ∷ xs) (suc k) l = inr (In-get_or xs k (omega arith))
 
 pub map_of-at : (nodes images : List ℕ) (k : ℕ) → AreDistinct nodes → length images ≤ length nodes → k < length images → map_of nodes images (get_or nodes k 0) ≡ get_or images k 0
 map_of-at [] [] k d e l = absurd (omega arith)
@@ -56,7 +52,7 @@ map_of-at (x ∷ xs) (t ∷ ts) zero d e l = rw (eq-eqb x x refl) refl
 map_of-at (x ∷ xs) (t ∷ ts) (suc k) d e l = by (map_of-at xs ts k d.1 (omega arith) (omega arith)) (x == get_or xs k 0) refl
   where
     by : map_of xs ts (get_or xs k 0) ≡ get_or ts k 0 → (b : Bool) → (x == get_or xs k 0) ≡ b → (if x == get_or xs k 0 then t else map_of xs ts (get_or xs k 0)) ≡ get_or ts k 0
-    by ih true f = absurd (d.0 (subst (λ z. In z xs) (sym (eqb-true x (get_or xs k 0) f)) (In-get_or xs k (omega arith))))
+    by ih true f = absurd (d.0 (subst (λ z. In z xs) (sym (eqb-true x (get_or xs k 0) f)) (In-get_or xs k 0 (omega arith))))
     by ih false f = rw f ih
 
 -- a node that is among the first ones has a place below their number
@@ -64,7 +60,7 @@ place_below : (xs : List ℕ) (p n : ℕ) → AreDistinct xs → p < length xs �
 place_below [] p n d l h = absurd (omega arith)
 place_below (x ∷ xs) p zero d l h = absurd h
 place_below (x ∷ xs) zero (suc n) d l h = omega arith
-place_below (x ∷ xs) (suc p) (suc n) d l (inl e) = absurd (d.0 (subst (λ z. In z xs) e (In-get_or xs p (omega arith))))
+place_below (x ∷ xs) (suc p) (suc n) d l (inl e) = absurd (d.0 (subst (λ z. In z xs) e (In-get_or xs p 0 (omega arith))))
 place_below (x ∷ xs) (suc p) (suc n) d l (inr h) = let r = place_below xs p n d.1 (omega arith) h in omega arith
 
 pub map_of-kept : (nodes images : List ℕ) (n : ℕ) → (¬ (In n nodes)) → map_of nodes images n ≡ n
@@ -86,7 +82,8 @@ map_of-same (x ∷ xs) (t ∷ ts) d e = first (map_of-same xs ts d.1 (omega arit
     later [] n = refl
     later (y ∷ ys) n = by (later ys (λ i. n (inr i))) (x == y) refl
       where
-        by : map (map_of (x ∷ xs) (t ∷ ts)) ys ≡ map (map_of xs ts) ys → (b : Bool) → (x == y) ≡ b → (if x == y then t else map_of xs ts y) ∷ map (map_of (x ∷ xs) (t ∷ ts)) ys ≡ map_of xs ts y ∷ map (map_of xs ts) ys
+        by : map (map_of (x ∷ xs) (t ∷ ts)) ys ≡ map (map_of xs ts) ys → (b : Bool) → (x == y) ≡ b
+            → (if x == y then t else map_of xs ts y) ∷ map (map_of (x ∷ xs) (t ∷ ts)) ys ≡ map_of xs ts y ∷ map (map_of xs ts) ys
         by ih true f = absurd (n (inl (eqb-true x y f)))
         by ih false f = rw f (ap (λ w. map_of xs ts y ∷ w) ih)
 
@@ -98,7 +95,8 @@ each_from_all p [] x i h = absurd i
 each_from_all p (y ∷ ys) x (inl e) h = ap p e ∙ (and_parts (p y) (list_all p ys) h).0
 each_from_all p (y ∷ ys) x (inr i) h = each_from_all p ys x i (and_parts (p y) (list_all p ys) h).1
 
-module _ (G H : List Quad) (nodes : List ℕ) (rows : List (List Condition)) (bound : ℕ) (meets : List ℕ → Condition → ℕ → Bool) (search : IsSearch G H nodes rows bound meets) (images : List ℕ) (is_map : IsMap bound (fits_rows meets rows) images) (front : length images ≤ length nodes) where
+module _ (G H : List Quad) (nodes : List ℕ) (rows : List (List Condition)) (bound : ℕ) (meets : List ℕ → Condition → ℕ → Bool) (search : IsSearch G H nodes rows bound meets) (images : List ℕ)
+    (is_map : IsMap bound (fits_rows meets rows) images) (front : length images ≤ length nodes) where
   other_end : (k : ℕ) → k < length images → (e : End) (x : ℕ) → IsOtherEnd nodes k e x → end_at (take k images) e ≡ map_of nodes images x
   other_end k l (Fixed n) x o = sym (map_of-kept nodes images x o.1 ∙ o.0)
   other_end k l (Place j) x o = get_or-take k images j 0 o.0 ∙ sym (map_of-at nodes images j search.rows_are.distinct front (let b = o.0 in omega arith)) ∙ ap (map_of nodes images) (sym o.1)
@@ -116,7 +114,8 @@ module _ (G H : List Quad) (nodes : List ℕ) (rows : List (List Condition)) (bo
       let e : s.triple ≡ carried (map_of nodes images) q = λ i. record { s = a i; p = b i; o = c i; g = g i } in
       subst (λ x. In x H) e s.there
 
-  stands_asked : (k : ℕ) → k < length images → (q : Quad) (c : Condition) → IsWhole c → IsAsked nodes k q c → Meets H (take k images) c (get_or images k 0) → Stands H (map_of nodes images q.s) q.p (map_of nodes images q.o)
+  stands_asked : (k : ℕ) → k < length images → (q : Quad) (c : Condition) → IsWhole c → IsAsked nodes k q c → Meets H (take k images) c (get_or images k 0)
+      → Stands H (map_of nodes images q.s) q.p (map_of nodes images q.o)
   stands_asked k l q (Subject p o) w a m = record { triple = m.triple; there = m.there; s_is = m.s_is ∙ node k l q.s a.0; p_is = m.p_is ∙ sym a.1; o_is = m.o_is ∙ other_end k l o q.o a.2 }
   stands_asked k l q (Object s p) w a m = record { triple = m.triple; there = m.there; s_is = m.s_is ∙ other_end k l s q.s a.2; p_is = m.p_is ∙ sym a.1; o_is = m.o_is ∙ node k l q.o a.0 }
   stands_asked k l q (Both p) w a m = record { triple = m.triple; there = m.there; s_is = m.s_is ∙ node k l q.s a.0; p_is = m.p_is ∙ sym a.1; o_is = m.o_is ∙ node k l q.o a.2 }
@@ -145,7 +144,8 @@ module _ (G H : List Quad) (nodes : List ℕ) (rows : List (List Condition)) (bo
           let r : length rows ≡ length nodes = search.rows_are.count in
           let in_rows : a.place < length rows = a.within in
           let inside : a.place < length nodes = omega arith in
-          let early : a.place < length images = place_below nodes a.place (length images) search.rows_are.distinct inside (among (get_or nodes a.place 0) (asked_end a.place q a.condition a.whole a.asked) (In-get_or nodes a.place inside)) in
+          let early : a.place < length images = place_below nodes a.place (length images) search.rows_are.distinct inside
+          (among (get_or nodes a.place 0) (asked_end a.place q a.condition a.whole a.asked) (In-get_or nodes a.place 0 inside)) in
           standing q there (stands_asked a.place early q a.condition a.whole a.asked (met a.place early a.condition a.there))
 
   end_of_met : (k : ℕ) (c : Condition) (t : ℕ) → Meets H (take k images) c t → IsEndIn H t
@@ -161,15 +161,10 @@ module _ (G H : List Quad) (nodes : List ℕ) (rows : List (List Condition)) (bo
       let c = search.asked k (omega arith) in
       end_of_met k c.0 (get_or images k 0) (met k l c.0 c.1)
 
-  at_place : (xs : List ℕ) (x : ℕ) → In x xs → (k : ℕ) × (k < length xs) × (get_or xs k 0 ≡ x)
-  at_place [] x h = absurd h
-  at_place (y ∷ xs) x (inl e) = (0, omega arith, sym e)
-  at_place (y ∷ xs) x (inr h) = let p = at_place xs x h in (suc p.0, omega (arith, p.1), p.2)
-
   pub is_partial : IsPartialNodeMap G H nodes images
   is_partial = record {
     within = front;
-    ends = All-from_each (IsEndIn H) images (λ t i. (let p = at_place images t i in subst (IsEndIn H) p.2 (image_is_end p.0 p.1)));
+    ends = All-from_each (IsEndIn H) images (λ t i. (let p = place_within images t 0 i in subst (IsEndIn H) p.2 (image_is_end p.0 p.1)));
     carries = carries_front;
   }
 
@@ -222,7 +217,8 @@ pub maps_of_rows : (G H : List Quad) (nodes : List ℕ) (rows : List (List Condi
 maps_of_rows G H nodes rows bound meets s =
     (λ m n. node_map_is_map G H nodes m n rows s.rows_are s.asked bound meets s.tells, map_is_node_map G H nodes rows bound meets s)
 
-pub endings_mean : (H : List Quad) (nodes : List ℕ) (rows : List (List Condition)) (bound : ℕ) (meets : List ℕ → Condition → ℕ → Bool) (sought : List ℕ → Bool) (limit : ℕ) (ending : Ending) → IsSearch H H nodes rows bound meets → TellsMisses H nodes sought → IsEnding bound (fits_rows meets rows) (length rows) sought limit ending → MeansOfEnding H nodes limit ending
+pub endings_mean : (H : List Quad) (nodes : List ℕ) (rows : List (List Condition)) (bound : ℕ) (meets : List ℕ → Condition → ℕ → Bool) (sought : List ℕ → Bool) (limit : ℕ) (ending : Ending)
+    → IsSearch H H nodes rows bound meets → TellsMisses H nodes sought → IsEnding bound (fits_rows meets rows) (length rows) sought limit ending → MeansOfEnding H nodes limit ending
 endings_mean H nodes rows bound meets sought limit (Found images) s t e =
     let w : length images.items ≡ length nodes = e.is_sought.whole ∙ s.rows_are.count in
     let n = map_is_node_map H H nodes rows bound meets s images.items e.is_sought.is_map w in

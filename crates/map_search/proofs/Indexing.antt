@@ -36,9 +36,14 @@ entry_place xs x i = (let p = place_in xs x i in (p.0, slice_get_within xs p.0 x
 
 distinct_by_places : (xs : List Entry) → ((i j : ℕ) → i < length xs → j < length xs → entry_at xs i ≡ entry_at xs j → i ≡ j) → AreDistinct xs
 distinct_by_places [] h = tt
-distinct_by_places (x ∷ xs) h = (λ i. (let p = entry_place xs x i in let e = h 0 (suc p.0) (omega arith) (let l = p.1 in omega arith) (sym p.2) in omega arith), distinct_by_places xs (λ i j l m e. (let s = h (suc i) (suc j) (omega arith) (omega arith) e in omega arith)))
+distinct_by_places (x ∷ xs) h = (
+  λ i. (let p = entry_place xs x i in let e = h 0 (suc p.0) (omega arith) (let l = p.1 in omega arith) (sym p.2) in omega arith),
+  distinct_by_places xs
+      (λ i j l m e. (let s = h (suc i) (suc j) (omega arith) (omega arith) e in omega arith)),
+)
 
-pub distinct_entries : (asked : Asked) (quads : List Quad) (es : List Entry) → length es ≡ length quads → ((k : ℕ) → k < length quads → entry_at es k ≡ entry_for asked (quad_at quads k) k) → AreDistinct es
+pub distinct_entries : (asked : Asked) (quads : List Quad) (es : List Entry) → length es ≡ length quads → ((k : ℕ) → k < length quads → entry_at es k ≡ entry_for asked (quad_at quads k) k)
+    → AreDistinct es
 distinct_entries asked quads es count each = distinct_by_places es (λ i j l m e. ap (λ (x : Entry). x.quad) (sym (each i (omega arith)) ∙ e ∙ each j (omega arith)))
 
 pub In-kept : (q : Quad) (quads : List Quad) (live : List Bool) → In q (kept quads live) → (k : ℕ) × (k < length quads) × (quad_at quads k ≡ q) × (mark_at live k ≡ true)
@@ -77,14 +82,16 @@ module _ (p : Quad → Bool) where
 -- ---- one table
 
 module _ (asked : Asked) (quads : List Quad) (live : List Bool) where
-  pub table_from_build : (es : List Entry) (t : TableView) → length es ≡ length quads → ((k : ℕ) → k < length quads → entry_at es k ≡ entry_for asked (quad_at quads k) k) → Permutes es t.entries → ((k : ℕ) → k < length t.entries → mark_at t.marks k ≡ true) → ((k : ℕ) → k < length quads → mark_at live k ≡ true) → IsTableOf asked quads live t
+  pub table_from_build : (es : List Entry) (t : TableView) → length es ≡ length quads → ((k : ℕ) → k < length quads → entry_at es k ≡ entry_for asked (quad_at quads k) k) → Permutes es t.entries
+      → ((k : ℕ) → k < length t.entries → mark_at t.marks k ≡ true) → ((k : ℕ) → k < length quads → mark_at live k ≡ true) → IsTableOf asked quads live t
   table_from_build es t count each permutes marks all = record {
     only = λ e l. (let o = one e l in (o.1, o.2));
     all = λ k l. In-Permutes (entry_for asked (quad_at quads k) k) permutes (subst (λ x. In x es) (each k l) (In-entry es k (omega arith)));
     marked = λ e l. (let o = one e l in marks e l ∙ sym (all (entry_at t.entries e).quad o.1));
   }
     where
-      one : (e : ℕ) → e < length t.entries → Unit {0} × ((entry_at t.entries e).quad < length quads) × (entry_at t.entries e ≡ entry_for asked (quad_at quads (entry_at t.entries e).quad) (entry_at t.entries e).quad)
+      one : (e : ℕ) → e < length t.entries
+          → Unit {0} × ((entry_at t.entries e).quad < length quads) × (entry_at t.entries e ≡ entry_for asked (quad_at quads (entry_at t.entries e).quad) (entry_at t.entries e).quad)
       one e l =
           let p = entry_place es (entry_at t.entries e) (In-Permutes (entry_at t.entries e) (Permutes-sym permutes) (In-entry t.entries e l)) in
           let inside : p.0 < length quads = (let a = p.1 in omega arith) in
@@ -92,11 +99,15 @@ module _ (asked : Asked) (quads : List Quad) (live : List Bool) where
           let k : (entry_at t.entries e).quad ≡ p.0 = ap (λ (x : Entry). x.quad) is in
           (tt, subst (λ w. w < length quads) (sym k) inside, subst (λ w. entry_at t.entries e ≡ entry_for asked (quad_at quads w) w) (sym k) is)
 
-  pub table_set : (t new : TableView) (place : ℕ) (there : Bool) (entry : Entry) → IsTableOf asked quads live t → place < length live → entry ≡ entry_for asked (quad_at quads place) place → new.entries ≡ t.entries → ((k : ℕ) → k < length t.entries → entry_at t.entries k ≡ entry → mark_at new.marks k ≡ there) → ((k : ℕ) → k < length t.entries → (entry_at t.entries k ≡ entry → ⊥) → mark_at new.marks k ≡ mark_at t.marks k) → IsTableOf asked quads (slice_set live place there) new
+  pub table_set : (t new : TableView) (place : ℕ) (there : Bool) (entry : Entry) → IsTableOf asked quads live t → place < length live → entry ≡ entry_for asked (quad_at quads place) place
+      → new.entries ≡ t.entries → ((k : ℕ) → k < length t.entries → entry_at t.entries k ≡ entry → mark_at new.marks k ≡ there)
+      → ((k : ℕ) → k < length t.entries → (entry_at t.entries k ≡ entry → ⊥) → mark_at new.marks k ≡ mark_at t.marks k) → IsTableOf asked quads (slice_set live place there) new
   table_set t new place there entry is inside entry_is same here others = record {
-    only = λ e l. subst (λ (xs : List Entry). ((entry_at xs e).quad < length quads) × (entry_at xs e ≡ entry_for asked (quad_at quads (entry_at xs e).quad) (entry_at xs e).quad)) (sym same) (is.only e (subst (λ (xs : List Entry). e < length xs) same l));
+    only = λ e l. subst (λ (xs : List Entry). ((entry_at xs e).quad < length quads) × (entry_at xs e ≡ entry_for asked (quad_at quads (entry_at xs e).quad) (entry_at xs e).quad)) (sym same)
+        (is.only e (subst (λ (xs : List Entry). e < length xs) same l));
     all = λ k l. subst (λ (xs : List Entry). In (entry_for asked (quad_at quads k) k) xs) (sym same) (is.all k l);
-    marked = λ e l. subst (λ (xs : List Entry). mark_at new.marks e ≡ mark_at (slice_set live place there) (entry_at xs e).quad) (sym same) (by e (subst (λ (xs : List Entry). e < length xs) same l) (decide (entry_at t.entries e).quad place));
+    marked = λ e l. subst (λ (xs : List Entry). mark_at new.marks e ≡ mark_at (slice_set live place there) (entry_at xs e).quad) (sym same)
+        (by e (subst (λ (xs : List Entry). e < length xs) same l) (decide (entry_at t.entries e).quad place));
   }
     where
       decide : (a b : ℕ) → (a ≡ b) ⊎ (a ≡ b → ⊥)
@@ -105,8 +116,11 @@ module _ (asked : Asked) (quads : List Quad) (live : List Bool) where
           three : (a b : ℕ) → (a < b) ⊎ ((a ≡ b) ⊎ (b < a))
           three a b = grind arith
 
-      by : (e : ℕ) → e < length t.entries → ((entry_at t.entries e).quad ≡ place) ⊎ ((entry_at t.entries e).quad ≡ place → ⊥) → mark_at new.marks e ≡ mark_at (slice_set live place there) (entry_at t.entries e).quad
-      by e l (inl f) = here e l ((is.only e l).1 ∙ ap (λ w. entry_for asked (quad_at quads w) w) f ∙ sym entry_is) ∙ sym (ap (mark_at (slice_set live place there)) f ∙ get_or-set_same live place there false inside)
+      by : (e : ℕ) → e < length t.entries → ((entry_at t.entries e).quad ≡ place) ⊎ ((entry_at t.entries e).quad ≡ place → ⊥)
+          → mark_at new.marks e ≡ mark_at (slice_set live place there) (entry_at t.entries e).quad
+      by e l (inl f) =
+          here e l ((is.only e l).1 ∙ ap (λ w. entry_for asked (quad_at quads w) w) f ∙ sym entry_is)
+          ∙ sym (ap (mark_at (slice_set live place there)) f ∙ get_or-set_same live place there false inside)
       by e l (inr n) = others e l (λ f. n (ap (λ (x : Entry). x.quad) (f ∙ entry_is))) ∙ is.marked e l ∙ sym (get_or-set_other live place (entry_at t.entries e).quad there false n)
 
   module _ (t : TableView) (is : IsTableOf asked quads live t) (first second : ℕ) where
@@ -117,8 +131,11 @@ module _ (asked : Asked) (quads : List Quad) (live : List Bool) where
         let a : first_of asked (quad_at quads (entry_at t.entries h.place).quad) ≡ first = sym (ap (λ (x : Entry). x.first) o.1) ∙ h.first_is in
         let b : second_of asked (quad_at quads (entry_at t.entries h.place).quad) ≡ second = sym (ap (λ (x : Entry). x.second) o.1) ∙ h.second_is in
         let c : value_of asked (quad_at quads (entry_at t.entries h.place).quad) ≡ v = sym (ap (λ (x : Entry). x.value) o.1) ∙ h.value_is in
-        passes_some (gives asked first second v) (kept quads live) (quad_at quads (entry_at t.entries h.place).quad) (kept-In quads live (entry_at t.entries h.place).quad o.0 (sym (is.marked h.place h.within) ∙ h.marked))
-        (all_three (first_of asked (quad_at quads (entry_at t.entries h.place).quad) == first) (second_of asked (quad_at quads (entry_at t.entries h.place).quad) == second) (value_of asked (quad_at quads (entry_at t.entries h.place).quad) == v) (eq-eqb (first_of asked (quad_at quads (entry_at t.entries h.place).quad)) first a) (eq-eqb (second_of asked (quad_at quads (entry_at t.entries h.place).quad)) second b) (eq-eqb (value_of asked (quad_at quads (entry_at t.entries h.place).quad)) v c))
+        passes_some (gives asked first second v) (kept quads live) (quad_at quads (entry_at t.entries h.place).quad)
+        (kept-In quads live (entry_at t.entries h.place).quad o.0 (sym (is.marked h.place h.within) ∙ h.marked))
+        (all_three (first_of asked (quad_at quads (entry_at t.entries h.place).quad) == first) (second_of asked (quad_at quads (entry_at t.entries h.place).quad) == second)
+        (value_of asked (quad_at quads (entry_at t.entries h.place).quad) == v) (eq-eqb (first_of asked (quad_at quads (entry_at t.entries h.place).quad)) first a)
+        (eq-eqb (second_of asked (quad_at quads (entry_at t.entries h.place).quad)) second b) (eq-eqb (value_of asked (quad_at quads (entry_at t.entries h.place).quad)) v c))
       where
         all_three : (x y z : Bool) → x ≡ true → y ≡ true → z ≡ true → (x && (y && z)) ≡ true
         all_three x y z e f g = rw (e, f, g) refl
@@ -156,14 +173,16 @@ value_within AsSomeObject q terms r = r.1
 
 -- ---- what is found for a condition
 
-module _ (quads : List Quad) (live : List Bool) (terms : ℕ) (range : (k : ℕ) → k < length quads → ((quad_at quads k).s < terms) × ((quad_at quads k).o < terms)) (images : List ℕ) (c : Condition) (t : TableView) (is : IsTableOf (asked_by c) quads live t) (first second : ℕ) (f : first ≡ first_asked images c) (s : second ≡ second_asked images c) (from : ℕ) where
+module _ (quads : List Quad) (live : List Bool) (terms : ℕ) (range : (k : ℕ) → k < length quads → ((quad_at quads k).s < terms) × ((quad_at quads k).o < terms)) (images : List ℕ) (c : Condition)
+    (t : TableView) (is : IsTableOf (asked_by c) quads live t) (first second : ℕ) (f : first ≡ first_asked images c) (s : second ≡ second_asked images c) (from : ℕ) where
   is_meets : (v : ℕ) → list_any (gives (asked_by c) first second v) (kept quads live) ≡ meets_in (kept quads live) images c v
   is_meets v = ap (λ w. list_any (gives (asked_by c) w second v) (kept quads live)) f ∙ ap (λ w. list_any (gives (asked_by c) (first_asked images c) w v) (kept quads live)) s
 
   pub next_for : (v : ℕ) → IsLeastValue t first second from v → IsNext terms (meets_in (kept quads live) images c) from v
   next_for v h = record {
     behind = h.behind;
-    within = (let o = is.only h.there.place h.there.within in subst (λ w. w < terms) (sym (ap (λ (x : Entry). x.value) o.1) ∙ h.there.value_is) (value_within (asked_by c) (quad_at quads (entry_at t.entries h.there.place).quad) terms (range (entry_at t.entries h.there.place).quad o.0)));
+    within = (let o = is.only h.there.place h.there.within in subst (λ w. w < terms) (sym (ap (λ (x : Entry). x.value) o.1) ∙ h.there.value_is)
+        (value_within (asked_by c) (quad_at quads (entry_at t.entries h.there.place).quad) terms (range (entry_at t.entries h.there.place).quad o.0)));
     fit = sym (is_meets v) ∙ has_gives (asked_by c) quads live t is first second v h.there;
     least = λ w b l e. h.least w b l (gives_has (asked_by c) quads live t is first second w (is_meets w ∙ e));
   }
@@ -179,7 +198,8 @@ module _ (quads : List Quad) (live : List Bool) (terms : ℕ) (range : (k : ℕ)
 -- ---- the law
 
 module _ (H : List Quad) (images : List ℕ) where
-  found_by : (asked : Asked) (first second t : ℕ) → list_any (gives asked first second t) H ≡ true → (q : Quad) × In q H × (first_of asked q ≡ first) × (second_of asked q ≡ second) × (value_of asked q ≡ t)
+  found_by : (asked : Asked) (first second t : ℕ) → list_any (gives asked first second t) H ≡ true
+      → (q : Quad) × In q H × (first_of asked q ≡ first) × (second_of asked q ≡ second) × (value_of asked q ≡ t)
   found_by asked first second t e =
       let r = some_passes (gives asked first second t) H e in
       let p = and_parts (first_of asked r.0 == first) ((second_of asked r.0 == second) && (value_of asked r.0 == t)) r.2 in
@@ -187,7 +207,10 @@ module _ (H : List Quad) (images : List ℕ) where
       (r.0, r.1, eqb-true (first_of asked r.0) first p.0, eqb-true (second_of asked r.0) second s.0, eqb-true (value_of asked r.0) t s.1)
 
   finds : (asked : Asked) (first second t : ℕ) (q : Quad) → In q H → first_of asked q ≡ first → second_of asked q ≡ second → value_of asked q ≡ t → list_any (gives asked first second t) H ≡ true
-  finds asked first second t q i a b c = passes_some (gives asked first second t) H q i (all_three (first_of asked q == first) (second_of asked q == second) (value_of asked q == t) (eq-eqb (first_of asked q) first a) (eq-eqb (second_of asked q) second b) (eq-eqb (value_of asked q) t c))
+  finds asked first second t q i a b c =
+      passes_some (gives asked first second t) H q i
+      (all_three (first_of asked q == first) (second_of asked q == second) (value_of asked q == t) (eq-eqb (first_of asked q) first a) (eq-eqb (second_of asked q) second b)
+      (eq-eqb (value_of asked q) t c))
     where
       all_three : (x y z : Bool) → x ≡ true → y ≡ true → z ≡ true → (x && (y && z)) ≡ true
       all_three x y z e f g = rw (e, f, g) refl
@@ -203,9 +226,21 @@ module _ (H : List Quad) (images : List ℕ) where
   both_one q e = rw (eq-eqb q.s q.o e) refl
 
   pub tells : (c : Condition) (t : ℕ) → (meets_in H images c t ≡ true) ↔ Meets H images c t
-  tells (Subject p o) t = (λ e. (let r = found_by AsSubject p (end_at images o) t e in record { triple = r.0; there = r.1; s_is = r.4; p_is = r.2; o_is = r.3 }), λ m. finds AsSubject p (end_at images o) t m.triple m.there m.p_is m.o_is m.s_is)
-  tells (Object s p) t = (λ e. (let r = found_by AsObject (end_at images s) p t e in record { triple = r.0; there = r.1; s_is = r.2; p_is = r.3; o_is = r.4 }), λ m. finds AsObject (end_at images s) p t m.triple m.there m.s_is m.p_is m.o_is)
-  tells (Both p) t = (λ e. (let r = found_by AsBoth p 1 t e in record { triple = r.0; there = r.1; s_is = r.4; p_is = r.2; o_is = sym (one_both r.0 r.3) ∙ r.4 }), λ m. finds AsBoth p 1 t m.triple m.there m.p_is (both_one m.triple (m.s_is ∙ sym m.o_is)) m.s_is)
+  tells (Subject p o) t = (
+    λ e. (let r = found_by AsSubject p (end_at images o) t e in record { triple = r.0; there = r.1; s_is = r.4; p_is = r.2; o_is = r.3 }),
+    λ m. finds AsSubject p
+        (end_at images o) t m.triple m.there m.p_is m.o_is m.s_is,
+  )
+  tells (Object s p) t = (
+    λ e. (let r = found_by AsObject (end_at images s) p t e in record { triple = r.0; there = r.1; s_is = r.2; p_is = r.3; o_is = r.4 }),
+    λ m. finds AsObject
+        (end_at images s) p t m.triple m.there m.s_is m.p_is m.o_is,
+  )
+  tells (Both p) t = (
+    λ e. (let r = found_by AsBoth p 1 t e in record { triple = r.0; there = r.1; s_is = r.4; p_is = r.2; o_is = sym (one_both r.0 r.3) ∙ r.4 }),
+    λ m. finds AsBoth p 1 t m.triple m.there m.p_is
+        (both_one m.triple (m.s_is ∙ sym m.o_is)) m.s_is,
+  )
   tells (SomeSubject p) t = (λ e. (let r = found_by AsSomeSubject p 0 t e in (r.0.o, record { triple = r.0; there = r.1; s_is = r.4; p_is = r.2; o_is = refl })), λ m. finds AsSomeSubject p 0 t m.1.triple m.1.there m.1.p_is refl m.1.s_is)
   tells (SomeObject p) t = (λ e. (let r = found_by AsSomeObject p 0 t e in (r.0.s, record { triple = r.0; there = r.1; s_is = refl; p_is = r.2; o_is = r.4 })), λ m. finds AsSomeObject p 0 t m.1.triple m.1.there m.1.p_is refl m.1.o_is)
 

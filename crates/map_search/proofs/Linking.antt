@@ -11,14 +11,12 @@ use Rattle.map_search.specs.declared.rows.Condition.{Condition}
 use Rattle.map_search.specs.declared.rows.Condition.TheVariants.{Subject, Object, Both, SomeSubject, SomeObject}
 use Rattle.map_search.specs.Maps.{FitBackwards, IsMap}
 use Rattle.map_search.specs.Rows.{meets_all}
+use Rattle.std.specs.Cmp.Derive.{both_true}
 use Rattle.map_search.specs.Pattern.{carried, IsNodeMap, TouchesOneOf, end_at, Stands, Meets, IsOtherEnd, IsAsked, IsAskedOf, row_at, AreRows, TellsMeets, fits_rows, EachIsAsked}
-
-and_true : (a b : Bool) → a ≡ true → b ≡ true → (a && b) ≡ true
-and_true a b e f = rw (e, f) refl
 
 all_from_each : {X : Type 0} (p : X → Bool) (xs : List X) → ((x : X) → In x xs → p x ≡ true) → list_all p xs ≡ true
 all_from_each p [] h = refl
-all_from_each p (x ∷ xs) h = and_true (p x) (list_all p xs) (h x (inl refl)) (all_from_each p xs (λ y i. h y (inr i)))
+all_from_each p (x ∷ xs) h = both_true (h x (inl refl)) (all_from_each p xs (λ y i. h y (inr i)))
 
 -- images that fit one after the other are a map
 module _ (bound : ℕ) (fits : List ℕ → ℕ → Bool) (images : List ℕ) (each : (k : ℕ) → k < length images → (get_or images k 0 < bound) × (fits (take k images) (get_or images k 0) ≡ true)) where
@@ -47,11 +45,16 @@ module _ (G H : List Quad) (nodes : List ℕ) (m : ℕ → ℕ) (is_map : IsNode
 
   -- what a triple asks of a node, its image meets
   meets_asked : (k : ℕ) → k < length nodes → (c : Condition) → IsAskedOf G nodes k c → Meets H (take k (map m nodes)) c (get_or (map m nodes) k 0)
-  meets_asked k l (Subject p o) a = record { triple = carried m a.triple; there = is_map.carries a.triple a.there a.touches; s_is = ap m a.asked.0 ∙ sym (image k l); p_is = a.asked.1; o_is = other_end k l o a.triple.o a.asked.2 }
-  meets_asked k l (Object s p) a = record { triple = carried m a.triple; there = is_map.carries a.triple a.there a.touches; s_is = other_end k l s a.triple.s a.asked.2; p_is = a.asked.1; o_is = ap m a.asked.0 ∙ sym (image k l) }
-  meets_asked k l (Both p) a = record { triple = carried m a.triple; there = is_map.carries a.triple a.there a.touches; s_is = ap m a.asked.0 ∙ sym (image k l); p_is = a.asked.1; o_is = ap m a.asked.2 ∙ sym (image k l) }
-  meets_asked k l (SomeSubject p) a = (m a.triple.o, record { triple = carried m a.triple; there = is_map.carries a.triple a.there a.touches; s_is = ap m a.asked.0 ∙ sym (image k l); p_is = a.asked.1; o_is = refl })
-  meets_asked k l (SomeObject p) a = (m a.triple.s, record { triple = carried m a.triple; there = is_map.carries a.triple a.there a.touches; s_is = refl; p_is = a.asked.1; o_is = ap m a.asked.0 ∙ sym (image k l) })
+  meets_asked k l (Subject p o) a =
+      record { triple = carried m a.triple; there = is_map.carries a.triple a.there a.touches; s_is = ap m a.asked.0 ∙ sym (image k l); p_is = a.asked.1; o_is = other_end k l o a.triple.o a.asked.2 }
+  meets_asked k l (Object s p) a =
+      record { triple = carried m a.triple; there = is_map.carries a.triple a.there a.touches; s_is = other_end k l s a.triple.s a.asked.2; p_is = a.asked.1; o_is = ap m a.asked.0 ∙ sym (image k l) }
+  meets_asked k l (Both p) a =
+      record { triple = carried m a.triple; there = is_map.carries a.triple a.there a.touches; s_is = ap m a.asked.0 ∙ sym (image k l); p_is = a.asked.1; o_is = ap m a.asked.2 ∙ sym (image k l) }
+  meets_asked k l (SomeSubject p) a =
+      (m a.triple.o, record { triple = carried m a.triple; there = is_map.carries a.triple a.there a.touches; s_is = ap m a.asked.0 ∙ sym (image k l); p_is = a.asked.1; o_is = refl })
+  meets_asked k l (SomeObject p) a =
+      (m a.triple.s, record { triple = carried m a.triple; there = is_map.carries a.triple a.there a.touches; s_is = refl; p_is = a.asked.1; o_is = ap m a.asked.0 ∙ sym (image k l) })
 
   -- a number that meets a condition is one of an end of H
   bounded : (bound : ℕ) (meets : List ℕ → Condition → ℕ → Bool) → TellsMeets H bound meets → (images : List ℕ) (c : Condition) (t : ℕ) → Meets H images c t → t < bound
@@ -62,7 +65,8 @@ module _ (G H : List Quad) (nodes : List ℕ) (m : ℕ → ℕ) (is_map : IsNode
   bounded bound meets tells images (SomeObject p) t h = subst (λ n. n < bound) h.1.o_is (tells.bounded h.1.triple h.1.there).1
 
   -- the images of the nodes under a map are a map of all places of the rows
-  pub node_map_is_map : (rows : List (List Condition)) → AreRows G nodes rows → EachIsAsked rows → (bound : ℕ) (meets : List ℕ → Condition → ℕ → Bool) → TellsMeets H bound meets → IsMap bound (fits_rows meets rows) (map m nodes)
+  pub node_map_is_map : (rows : List (List Condition)) → AreRows G nodes rows → EachIsAsked rows → (bound : ℕ) (meets : List ℕ → Condition → ℕ → Bool) → TellsMeets H bound meets
+      → IsMap bound (fits_rows meets rows) (map m nodes)
   node_map_is_map rows are asked bound meets tells = is_map_from_each bound (fits_rows meets rows) (map m nodes) each
     where
       each : (k : ℕ) → k < length (map m nodes) → (get_or (map m nodes) k 0 < bound) × (fits_rows meets rows (take k (map m nodes)) (get_or (map m nodes) k 0) ≡ true)

@@ -28,7 +28,8 @@ some_of true b e f = absurd (true≢false f)
 some_of false b e f = e
 
 -- no mark above, none below
-pub none_below : (marks : List Bool) (from end : ℕ) → AreAbove marks → end ≡ 2 * (end / 2) → end ≤ length marks → 0 < from → NoMark marks from (end / 2) → (k : ℕ) → 2 * from ≤ k → k < end → mark_at marks k ≡ false
+pub none_below : (marks : List Bool) (from end : ℕ) → AreAbove marks → end ≡ 2 * (end / 2) → end ≤ length marks → 0 < from → NoMark marks from (end / 2) → (k : ℕ) → 2 * from ≤ k → k < end
+    → mark_at marks k ≡ false
 none_below marks from end above even within some none k l m =
     let up : mark_at marks (k / 2) ≡ false = none (k / 2) (omega arith) (omega arith) in
     let two = none_of (mark_at marks (2 * (k / 2))) (mark_at marks (2 * (k / 2) + 1)) (sym (above (k / 2) (omega arith) (omega arith)) ∙ up) in
@@ -37,7 +38,8 @@ none_below marks from end above even within some none k l m =
 order : (a b : ℕ) → (a < b) ⊎ (b ≤ a)
 order a b = grind arith
 
-module _ (marks : List Bool) (at end height : ℕ) (above : AreAbove marks) (end_is : end ≡ 2 ^ height) (within : end ≤ length marks) (some : 0 < at) (before : at + 1 < end) (here : mark_at marks at ≡ false) (beside : at % 2 ≡ 0 → mark_at marks (at + 1) ≡ false) where
+module _ (marks : List Bool) (at end height : ℕ) (above : AreAbove marks) (end_is : end ≡ 2 ^ height) (within : end ≤ length marks) (some : 0 < at) (before : at + 1 < end)
+    (here : mark_at marks at ≡ false) (beside : at % 2 ≡ 0 → mark_at marks (at + 1) ≡ false) where
   abbrev up : ℕ
   up = at / 2 + 1
 
@@ -66,4 +68,11 @@ module _ (marks : List Bool) (at end height : ℕ) (above : AreAbove marks) (end
     next_left h = (let a = next.behind in let b = next.before in let e = even.0 in record { behind = omega arith; before = omega arith; marked = h; first = first })
 
     pub next_right : mark_at marks (2 * r) ≡ false → IsNextMark marks at end (2 * r + 1)
-    next_right h = (let a = next.behind in let b = next.before in let e = even.0 in record { behind = omega arith; before = omega arith; marked = some_of (mark_at marks (2 * r)) (mark_at marks (2 * r + 1)) both h; first = λ k l m. elim (order k (2 * r)) [ inl c ↦ first k l c | inr c ↦ (let s : k ≡ 2 * r = omega arith in ap (mark_at marks) s ∙ h) ] })
+    next_right h =
+        (let a = next.behind in let b = next.before in let e = even.0 in record {
+          behind = omega arith;
+          before = omega arith;
+          marked = some_of (mark_at marks (2 * r))
+              (mark_at marks (2 * r + 1)) both h;
+          first = λ k l m. elim (order k (2 * r)) [ inl c ↦ first k l c | inr c ↦ (let s : k ≡ 2 * r = omega arith in ap (mark_at marks) s ∙ h) ];
+        })

@@ -94,7 +94,8 @@ entry_cmp a b = ordering_then (nat_cmp a.first b.first) (ordering_then (nat_cmp 
 
 total : IsTotalOrder entry_cmp
 unfolding entry_cmp
-total = then_total (on_total (λ (e : Entry). e.first) nat_cmp_total) (then_total (on_total (λ (e : Entry). e.second) nat_cmp_total) (then_total (on_total (λ (e : Entry). e.value) nat_cmp_total) (on_total (λ (e : Entry). e.quad) nat_cmp_total)))
+total = then_total (on_total (λ (e : Entry). e.first) nat_cmp_total)
+    (then_total (on_total (λ (e : Entry). e.second) nat_cmp_total) (then_total (on_total (λ (e : Entry). e.value) nat_cmp_total) (on_total (λ (e : Entry). e.quad) nat_cmp_total)))
 
 lt_then : (x y : ℕ) (o : Ordering) → is_lt (ordering_then (nat_cmp x y) o) ≡ (nat_lt x y || ((x == y) && is_lt o))
 lt_then x y o = by (nat_lt x y) (x == y)
@@ -122,7 +123,8 @@ lt_is_before a b =
 pub one_index : (xs : List Entry) (i j : ℕ) → AreDistinct xs → i < length xs → j < length xs → entry_at xs i ≡ entry_at xs j → i ≡ j
 one_index xs i j d l m e = one_place xs i j (entry_at xs i) d (slice_get-get_or xs i no_entry l) (slice_get-get_or xs j no_entry m ∙ ap Some (sym e))
 
-pub in_order : (before xs : List Entry) → AreDistinct before → IsPermutation before xs → IsSorted (λ a b. ordering_then (nat_cmp a.first b.first) (ordering_then (nat_cmp a.second b.second) (ordering_then (nat_cmp a.value b.value) (nat_cmp a.quad b.quad)))) xs → AreInOrder xs
+pub in_order : (before xs : List Entry) → AreDistinct before → IsPermutation before xs
+    → IsSorted (λ a b. ordering_then (nat_cmp a.first b.first) (ordering_then (nat_cmp a.second b.second) (ordering_then (nat_cmp a.value b.value) (nat_cmp a.quad b.quad)))) xs → AreInOrder xs
 unfolding entry_cmp
 in_order before xs once permutes sorted i j l m = by (is_before (entry_at xs i) (entry_at xs j)) refl
   where
@@ -157,7 +159,19 @@ module _ (xs : List Entry) (order : AreInOrder xs) (sought : Entry) where
   start_is p s there = by (place_in xs sought there)
     where
       at_place : (j : ℕ) → j < length xs → entry_at xs j ≡ sought → (p < length xs) × (entry_at xs p ≡ sought)
-      at_place j l e = elim (le_or p j) [ inl b ↦ elim (le_cases p j b) [ inl c ↦ absurd (true≢false (sym (subst (λ w. is_before (entry_at xs p) w ≡ true) e (order p j c l)) ∙ s.behind p (omega arith) (omega arith))) | inr f ↦ (subst (λ w. w < length xs) (sym f) l, ap (entry_at xs) f ∙ e) ] | inr b ↦ absurd (before-itself sought (subst (λ w. is_before w sought ≡ true) e (s.before j b))) ]
+      at_place j l e =
+          elim (le_or p j) [
+            | inl b ↦ elim (le_cases p j b) [
+              | inl c ↦ absurd
+                  (true≢false (sym (subst (λ w. is_before (entry_at xs p) w ≡ true) e (order p j c l)) ∙ s.behind p (omega arith) (omega arith)))
+              | inr f ↦ (
+                subst (λ w. w < length xs) (sym f) l,
+                ap
+                    (entry_at xs) f ∙ e,
+              )
+            ]
+            | inr b ↦ absurd (before-itself sought (subst (λ w. is_before w sought ≡ true) e (s.before j b)))
+          ]
         where
           le_or : (a b : ℕ) → (a ≤ b) ⊎ (b < a)
           le_or a b = grind arith

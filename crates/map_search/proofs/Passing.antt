@@ -5,18 +5,16 @@ use Rattle.std.proofs.lemmas.List.Folds.{list_all_more, list_all_at}
 use Rattle.std.proofs.lemmas.Bool.{and_parts}
 use Rattle.map_search.specs.Maps.{IsNext, NoneFits}
 use Rattle.map_search.specs.Rows.{meets_all}
+use Rattle.std.specs.Cmp.Derive.{both_true}
 use Rattle.map_search.specs.declared.rows.Condition.{Condition}
 
 three : (x y : ℕ) → (x < y) ⊎ ((x ≡ y) ⊎ (y < x))
 three x y = grind arith
 
-and_true : (a b : Bool) → a ≡ true → b ≡ true → (a && b) ≡ true
-and_true a b e f = rw (e, f) refl
-
 all_take : {X : Type 0} (p : X → Bool) (xs : List X) (i : ℕ) → list_all p xs ≡ true → list_all p (take i xs) ≡ true
 all_take p xs zero h = refl
 all_take p [] (suc i) h = refl
-all_take p (x ∷ xs) (suc i) h = let b = and_parts (p x) (list_all p xs) h in and_true (p x) (list_all p (take i xs)) b.0 (all_take p xs i b.1)
+all_take p (x ∷ xs) (suc i) h = let b = and_parts (p x) (list_all p xs) h in both_true b.0 (all_take p xs i b.1)
 
 all_at : {X : Type 0} (p : X → Bool) (xs : List X) (i : ℕ) (d : X) → i < length xs → list_all p xs ≡ true → p (get_or xs i d) ≡ true
 all_at p xs i d l h = by (p (get_or xs i d)) refl
@@ -25,7 +23,8 @@ all_at p xs i d l h = by (p (get_or xs i d)) refl
     by true e = e
     by false e = absurd (true≢false (sym h ∙ list_all_at p xs i d l e))
 
-module _ (bound : ℕ) (meets : Condition → ℕ → Bool) (row : List Condition) (i : ℕ) (d : Condition) (within : i < length row) (from at : ℕ) (least : (s : ℕ) → from ≤ s → s < bound → meets_all meets (take i row) s ≡ true → at ≤ s) where
+module _ (bound : ℕ) (meets : Condition → ℕ → Bool) (row : List Condition) (i : ℕ) (d : Condition) (within : i < length row) (from at : ℕ)
+    (least : (s : ℕ) → from ≤ s → s < bound → meets_all meets (take i row) s ≡ true → at ≤ s) where
   pub none_passed : NoneFits bound (meets (get_or row i d)) at → NoneFits bound (meets_all meets row) from
   none_passed none s a b h = none s (least s a b (all_take (λ c. meets c s) row i h)) b (all_at (λ c. meets c s) row i d within h)
 
@@ -45,4 +44,4 @@ module _ (bound : ℕ) (meets : Condition → ℕ → Bool) (row : List Conditio
         let l : at ≤ next = n.behind in
         let same : at ≡ from = omega arith in
         let f : meets (get_or row i d) from ≡ true = subst (λ t. meets (get_or row i d) t ≡ true) e n.fit in
-        list_all_more (λ c. meets c from) row i d within ∙ and_true _ _ (stays same) f
+        list_all_more (λ c. meets c from) row i d within ∙ both_true (stays same) f

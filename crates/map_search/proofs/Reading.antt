@@ -1,7 +1,7 @@
 -- The maps that a search goes through are exactly those that fit.
 use Rattle.std.proofs.Common.{◌≡◌, ℕ, zero, suc, ◌+◌, ◌-◌, ◌<◌, ◌≤◌, ◌⊎◌, ◌==◌, Bool, true, false, if◌then◌else◌, List, [], ◌∷◌, ◌++◌, length, reverse, map, All, refl, sym, ap, ◌∙◌, subst, inl, inr, arith, true≢false, eq-eqb}
 use Rattle.std.proofs.lemmas.Bool.{eqb-true}
-use Rattle.std.proofs.lemmas.List.{reverse-reverse, length-reverse}
+use Rattle.std.proofs.lemmas.List.{reverse-reverse, length-reverse, length-map}
 use Rattle.rdf_terms.specs.Lists.{In, AreDistinct}
 use Rattle.rdf_terms.proofs.Membership.{In-append, In-append_left, In-append_right, In-map, from_In-map}
 use Rattle.map_search.specs.Maps.{FitBackwards}
@@ -12,19 +12,25 @@ module _ (bound : ℕ) (fits : List ℕ → ℕ → Bool) where
   pub from_branches : (sub : List ℕ → List (List ℕ)) (path q : List ℕ) (from left : ℕ) → In q (branches bound fits sub path from left) → (s : ℕ) × (from ≤ s) × (s < from + left) × (fits (reverse path) s ≡ true) × In q (sub (s ∷ path))
   unfolding branches
   from_branches sub path q from zero h = absurd h
-  from_branches sub path q from (suc left) h = by (from_branches sub path q (suc from) left) (fits (reverse path) from) refl (In-append (if fits (reverse path) from then sub (from ∷ path) else []) (branches bound fits sub path (suc from) left) q h)
+  from_branches sub path q from (suc left) h =
+      by (from_branches sub path q (suc from) left) (fits (reverse path) from) refl
+      (In-append (if fits (reverse path) from then sub (from ∷ path) else []) (branches bound fits sub path (suc from) left) q h)
     where
-      by : (In q (branches bound fits sub path (suc from) left) → (s : ℕ) × (suc from ≤ s) × (s < suc from + left) × (fits (reverse path) s ≡ true) × In q (sub (s ∷ path))) → (b : Bool) → fits (reverse path) from ≡ b → In q (if fits (reverse path) from then sub (from ∷ path) else []) ⊎ In q (branches bound fits sub path (suc from) left) → (s : ℕ) × (from ≤ s) × (s < from + suc left) × (fits (reverse path) s ≡ true) × In q (sub (s ∷ path))
+      by : (In q (branches bound fits sub path (suc from) left) → (s : ℕ) × (suc from ≤ s) × (s < suc from + left) × (fits (reverse path) s ≡ true) × In q (sub (s ∷ path))) → (b : Bool)
+          → fits (reverse path) from ≡ b → In q (if fits (reverse path) from then sub (from ∷ path) else []) ⊎ In q (branches bound fits sub path (suc from) left)
+          → (s : ℕ) × (from ≤ s) × (s < from + suc left) × (fits (reverse path) s ≡ true) × In q (sub (s ∷ path))
       by ih b e (inr i) = let p = ih i in (p.0, (let l = p.1 in omega arith), (let l = p.2 in omega arith), p.3, p.4)
       by ih true e (inl i) = let j = rw e at i in (from, omega arith, omega arith, e, j)
       by ih false e (inl i) = let j = rw e at i in absurd j
 
-  to_branches : (sub : List ℕ → List (List ℕ)) (path q : List ℕ) (from left s : ℕ) → from ≤ s → s < from + left → fits (reverse path) s ≡ true → In q (sub (s ∷ path)) → In q (branches bound fits sub path from left)
+  to_branches : (sub : List ℕ → List (List ℕ)) (path q : List ℕ) (from left s : ℕ) → from ≤ s → s < from + left → fits (reverse path) s ≡ true → In q (sub (s ∷ path))
+      → In q (branches bound fits sub path from left)
   unfolding branches
   to_branches sub path q from zero s a b f i = absurd (omega arith)
   to_branches sub path q from (suc left) s a b f i = by (λ l. to_branches sub path q (suc from) left s l (omega arith) f i) (from == s) refl
     where
-      by : (suc from ≤ s → In q (branches bound fits sub path (suc from) left)) → (c : Bool) → (from == s) ≡ c → In q ((if fits (reverse path) from then sub (from ∷ path) else []) ++ branches bound fits sub path (suc from) left)
+      by : (suc from ≤ s → In q (branches bound fits sub path (suc from) left)) → (c : Bool) → (from == s) ≡ c
+          → In q ((if fits (reverse path) from then sub (from ∷ path) else []) ++ branches bound fits sub path (suc from) left)
       by ih true e =
           let same : from ≡ s = eqb-true from s e in
           let g : fits (reverse path) from ≡ true = rw same f in

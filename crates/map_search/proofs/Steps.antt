@@ -98,7 +98,8 @@ module _ (bound : ℕ) (fits : List ℕ → ℕ → Bool) (places : ℕ) (sought
   go_back images before x from tried u e none =
       let r : reverse images ≡ x ∷ reverse before = ap reverse e ∙ reverse-push before x in
       let n : NoneFits bound (fits (reverse (reverse images))) from = subst (λ w. NoneFits bound (fits w) from) (sym (reverse-reverse images)) none in
-      subst (λ m. State before m tried) (sym (add-one x)) (back bound fits places sought x (reverse before) from tried (subst (λ w. Underway bound fits places sought w from tried) r u) (subst (λ w. NoneFits bound (fits (reverse w)) from) r n))
+      subst (λ m. State before m tried) (sym (add-one x))
+      (back bound fits places sought x (reverse before) from tried (subst (λ w. Underway bound fits places sought w from tried) r u) (subst (λ w. NoneFits bound (fits (reverse w)) from) r n))
 
   pub nothing_left : (images : List ℕ) (from tried limit : ℕ) → State images from tried → images ≡ [] → NoneFits bound (fits images) from → tried ≤ limit → IsNothing bound fits places sought limit
   nothing_left images from tried limit u e none few = by (subst (λ z. State z from tried) e u) (subst (λ z. NoneFits bound (fits z) from) e none)

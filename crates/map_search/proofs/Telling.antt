@@ -4,27 +4,18 @@ use Rattle.std.specs.List.{list_all, list_any}
 use Rattle.std.proofs.lemmas.Bool.{eqb-true}
 use Rattle.std.proofs.lemmas.List.{length-map}
 use Rattle.rdf_terms.specs.Lists.{In, AreDistinct}
-use Rattle.std.proofs.lemmas.Bool.{and_parts}
+use Rattle.std.proofs.lemmas.Bool.{and_parts, or_right}
+use Rattle.std.specs.Cmp.Derive.{both_true}
 use Rattle.rdf_terms.proofs.Membership.{In-map, from_In-map}
 use Rattle.rdf_terms.specs.declared.term.Quad.{Quad}
 use Rattle.map_search.specs.Pattern.{carried, IsNodeMap, TouchesOneOf, IsReachedBy, Misses, ReachesAll, TellsMisses, misses_node}
 use Rattle.map_search.specs.Laws.{IsInTriple}
 use Rattle.rdf_terms.proofs.MadeLists.{AreDistinct-map}
+use Rattle.graph_model.proofs.Counting.{without, length-without}
 
 -- ---- lists that are no longer than a part of theirs
 
 module _ {A : Type 0} where
-  without : (x : A) (ys : List A) → In x ys → List A
-  without x [] h = []
-  without x (y ∷ ys) (inl e) = ys
-  without x (y ∷ ys) (inr h) = y ∷ without x ys h
-
-  length-without : (x : A) (ys : List A) (h : In x ys) → length ys ≡ suc (length (without x ys h))
-  unfolding without
-  length-without x [] h = absurd h
-  length-without x (y ∷ ys) (inl e) = refl
-  length-without x (y ∷ ys) (inr h) = ap suc (length-without x ys h)
-
   in_without : (x z : A) (ys : List A) (h : In x ys) → In z ys → (z ≡ x) ⊎ In z (without x ys h)
   unfolding without
   in_without x z [] h i = absurd h
@@ -78,7 +69,7 @@ injective_on m (x ∷ xs) d a b (inr i) (inr j) e = injective_on m xs d.1 a b i 
 is_in : ℕ → List ℕ → Bool
 is_in x xs = list_any (λ i. i == x) xs
 
-is_in-true : (x : ℕ) (xs : List ℕ) → list_any (λ i. i == x) xs ≡ true → In x xs
+pub is_in-true : (x : ℕ) (xs : List ℕ) → list_any (λ i. i == x) xs ≡ true → In x xs
 is_in-true x [] h = absurd (true≢false (sym h))
 is_in-true x (y ∷ ys) h = by (y == x) refl h (is_in-true x ys)
   where
@@ -86,14 +77,10 @@ is_in-true x (y ∷ ys) h = by (y == x) refl h (is_in-true x ys)
     by true e h ih = inl (sym (eqb-true y x e))
     by false e h ih = inr (ih h)
 
-or_true : (a b : Bool) → b ≡ true → (a || b) ≡ true
-or_true true b e = refl
-or_true false b e = e
-
-is_in-from : (x : ℕ) (xs : List ℕ) → In x xs → list_any (λ i. i == x) xs ≡ true
+pub is_in-from : (x : ℕ) (xs : List ℕ) → In x xs → list_any (λ i. i == x) xs ≡ true
 is_in-from x [] h = absurd h
 is_in-from x (y ∷ ys) (inl e) = ap (λ b. b || list_any (λ i. i == x) ys) (eq-eqb y x (sym e))
-is_in-from x (y ∷ ys) (inr h) = or_true (y == x) (list_any (λ i. i == x) ys) (is_in-from x ys h)
+is_in-from x (y ∷ ys) (inr h) = or_right (y == x) (list_any (λ i. i == x) ys) (is_in-from x ys h)
 
 decide_in : (x : ℕ) (xs : List ℕ) → In x xs ⊎ (¬ (In x xs))
 decide_in x xs = by (list_any (λ i. i == x) xs) refl
@@ -107,19 +94,17 @@ found_missing : (images nodes : List ℕ) → ((x : ℕ) × In x nodes × (¬ (I
 found_missing images [] = inr (λ x i. absurd i)
 found_missing images (y ∷ ys) = by (decide_in y images) (found_missing images ys)
   where
-    by : In y images ⊎ (¬ (In y images)) → ((x : ℕ) × In x ys × (¬ (In x images))) ⊎ ((x : ℕ) → In x ys → In x images) → ((x : ℕ) × In x (y ∷ ys) × (¬ (In x images))) ⊎ ((x : ℕ) → In x (y ∷ ys) → In x images)
+    by : In y images ⊎ (¬ (In y images)) → ((x : ℕ) × In x ys × (¬ (In x images))) ⊎ ((x : ℕ) → In x ys → In x images)
+        → ((x : ℕ) × In x (y ∷ ys) × (¬ (In x images))) ⊎ ((x : ℕ) → In x (y ∷ ys) → In x images)
     by (inr n) r = inl (y, inl refl, n)
     by (inl i) (inl p) = inl (p.0, inr p.1, p.2)
     by (inl i) (inr a) = inr (λ x h. elim h [ inl e ↦ subst (λ z. In z images) (sym e) i | inr j ↦ a x j ])
 
-all_images : (images nodes : List ℕ) → ((x : ℕ) → In x nodes → In x images) → list_all (λ x. list_any (λ i. i == x) images) nodes ≡ true
+pub all_images : (images nodes : List ℕ) → ((x : ℕ) → In x nodes → In x images) → list_all (λ x. list_any (λ i. i == x) images) nodes ≡ true
 all_images images [] h = refl
-all_images images (y ∷ ys) h = and_true (list_any (λ i. i == y) images) _ (is_in-from y images (h y (inl refl))) (all_images images ys (λ x i. h x (inr i)))
-  where
-    and_true : (a b : Bool) → a ≡ true → b ≡ true → (a && b) ≡ true
-    and_true a b e f = rw (e, f) refl
+all_images images (y ∷ ys) h = both_true (is_in-from y images (h y (inl refl))) (all_images images ys (λ x i. h x (inr i)))
 
-each_image : (images nodes : List ℕ) → list_all (λ x. list_any (λ i. i == x) images) nodes ≡ true → (x : ℕ) → In x nodes → In x images
+pub each_image : (images nodes : List ℕ) → list_all (λ x. list_any (λ i. i == x) images) nodes ≡ true → (x : ℕ) → In x nodes → In x images
 each_image images [] h x i = absurd i
 each_image images (y ∷ ys) h x (inl e) = subst (λ z. In z images) (sym e) (is_in-true y images (and_parts (list_any (λ i. i == y) images) (list_all (λ x. list_any (λ i. i == x) images) ys) h).0)
 each_image images (y ∷ ys) h x (inr i) = each_image images ys (and_parts (list_any (λ i. i == y) images) (list_all (λ x. list_any (λ i. i == x) images) ys) h).1 x i
@@ -183,7 +168,8 @@ pub nodes_tell : (H : List Quad) (nodes : List ℕ) → AreDistinct H → AreDis
 nodes_tell H nodes distinct once used = record { misses = misses; reaches = reaches }
   where
     misses : (m : ℕ → ℕ) → IsNodeMap H H nodes m → misses_node nodes (map m nodes) ≡ true → Misses H nodes m
-    misses m n e = elim (found_missing (map m nodes) nodes) [ inl p ↦ misses_by_node H nodes m n p.0 p.1 p.2 (used p.0 p.1) | inr a ↦ absurd (true≢false (sym e ∙ ap not (all_images (map m nodes) nodes a))) ]
+    misses m n e =
+        elim (found_missing (map m nodes) nodes) [ inl p ↦ misses_by_node H nodes m n p.0 p.1 p.2 (used p.0 p.1) | inr a ↦ absurd (true≢false (sym e ∙ ap not (all_images (map m nodes) nodes a))) ]
 
     reaches : (m : ℕ → ℕ) → IsNodeMap H H nodes m → misses_node nodes (map m nodes) ≡ false → ReachesAll H nodes m
     reaches m n e = reaches_all H nodes m n distinct once (each_image (map m nodes) nodes (unnot (list_all (λ x. list_any (λ i. i == x) (map m nodes)) nodes) e))

@@ -34,12 +34,15 @@ module _ (bound : ℕ) (fits : List ℕ → ℕ → Bool) where
       by ih true e = absurd (h from (omega arith) (omega arith) e)
       by ih false e = rw e ih
 
-  branches-next : (sub : List ℕ → List (List ℕ)) (path : List ℕ) (from left t rest : ℕ) → from + left ≡ suc t + rest → from ≤ t → fits (reverse path) t ≡ true → ((s : ℕ) → from ≤ s → s < t → ¬ (fits (reverse path) s ≡ true)) → branches sub path from left ≡ sub (t ∷ path) ++ branches sub path (suc t) rest
+  branches-next : (sub : List ℕ → List (List ℕ)) (path : List ℕ) (from left t rest : ℕ) → from + left ≡ suc t + rest → from ≤ t → fits (reverse path) t ≡ true
+      → ((s : ℕ) → from ≤ s → s < t → ¬ (fits (reverse path) s ≡ true)) → branches sub path from left ≡ sub (t ∷ path) ++ branches sub path (suc t) rest
   unfolding branches
   branches-next sub path from zero t rest e le f least = absurd (omega arith)
-  branches-next sub path from (suc left) t rest e le f least = by (λ l. branches-next sub path (suc from) left t rest (omega arith) (omega arith) f (λ s a b. least s (omega arith) b)) (three from t) (fits (reverse path) from) refl
+  branches-next sub path from (suc left) t rest e le f least =
+      by (λ l. branches-next sub path (suc from) left t rest (omega arith) (omega arith) f (λ s a b. least s (omega arith) b)) (three from t) (fits (reverse path) from) refl
     where
-      by : (from < t → branches sub path (suc from) left ≡ sub (t ∷ path) ++ branches sub path (suc t) rest) → (from < t) ⊎ ((from ≡ t) ⊎ (t < from)) → (b : Bool) → fits (reverse path) from ≡ b → (if fits (reverse path) from then sub (from ∷ path) else []) ++ branches sub path (suc from) left ≡ sub (t ∷ path) ++ branches sub path (suc t) rest
+      by : (from < t → branches sub path (suc from) left ≡ sub (t ∷ path) ++ branches sub path (suc t) rest) → (from < t) ⊎ ((from ≡ t) ⊎ (t < from)) → (b : Bool) → fits (reverse path) from ≡ b
+          → (if fits (reverse path) from then sub (from ∷ path) else []) ++ branches sub path (suc from) left ≡ sub (t ∷ path) ++ branches sub path (suc t) rest
       by ih (inl l) true g = absurd (least from (omega arith) l g)
       by ih (inl l) false g = rw g (ih l)
       by ih (inr (inl s)) true g =
@@ -54,7 +57,8 @@ module _ (bound : ℕ) (fits : List ℕ → ℕ → Bool) where
       let a : from ≤ t = n.behind in
       let b : t < bound = n.within in
       let e : from + (bound - from) ≡ suc t + (bound - suc t) = omega arith in
-      ap (λ w. w ++ above r path) (branches-next (visits r) path from (bound - from) t (bound - suc t) e a n.fit n.least) ∙ append_assoc (visits r (t ∷ path)) (branches (visits r) path (suc t) (bound - suc t)) (above r path)
+      ap (λ w. w ++ above r path) (branches-next (visits r) path from (bound - from) t (bound - suc t) e a n.fit n.least)
+      ∙ append_assoc (visits r (t ∷ path)) (branches (visits r) path (suc t) (bound - suc t)) (above r path)
 
   pub pending-none : (r : ℕ) (path : List ℕ) (from : ℕ) → NoneFits bound (fits (reverse path)) from → pending r path from ≡ above r path
   unfolding pending

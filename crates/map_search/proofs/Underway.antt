@@ -78,7 +78,8 @@ module _ (bound : ℕ) (fits : List ℕ → ℕ → Bool) (places : ℕ) (sought
               left = λ p i whole s. (let j = subst (λ w. In p w) v (left p i whole s) in elim j [ inl z ↦ absurd (true≢false (sym s ∙ ap (λ w. sought (reverse w)) z ∙ unsought)) | inr h ↦ h ]);
             }
 
-  pub back : (x : ℕ) (below : List ℕ) (from tried : ℕ) → Underway bound fits places sought (x ∷ below) from tried → NoneFits bound (fits (reverse (x ∷ below))) from → Underway bound fits places sought below (suc x) tried
+  pub back : (x : ℕ) (below : List ℕ) (from tried : ℕ) → Underway bound fits places sought (x ∷ below) from tried → NoneFits bound (fits (reverse (x ∷ below))) from
+      → Underway bound fits places sought below (suc x) tried
   back x below from tried u n =
       let v = pending-back bound fits u.r x below from n in
       record {
@@ -91,5 +92,6 @@ module _ (bound : ℕ) (fits : List ℕ → ℕ → Bool) (places : ℕ) (sought
         left = λ p i whole s. subst (λ w. In p w) v (u.left p i whole s);
       }
 
-  pub ended : (from tried : ℕ) → Underway bound fits places sought [] from tried → NoneFits bound (fits (reverse [])) from → (p : List ℕ) → In p (visits bound fits places []) → length p ≡ places → ¬ (sought (reverse p) ≡ true)
+  pub ended : (from tried : ℕ) → Underway bound fits places sought [] from tried → NoneFits bound (fits (reverse [])) from → (p : List ℕ) → In p (visits bound fits places []) → length p ≡ places
+      → ¬ (sought (reverse p) ≡ true)
   ended from tried u n p i whole s = subst (λ w. In p w) (pending-end bound fits u.r from n) (u.left p i whole s)

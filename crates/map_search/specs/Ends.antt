@@ -6,7 +6,8 @@ use Rattle.map_search.specs.declared.search.Ending.{Ending}
 use Rattle.map_search.specs.declared.search.Ending.TheVariants.{Found, Nothing, PastLimit}
 
 -- a map of all places that is sought
-pub record IsSought (bound : ℕ) (fits : List ℕ → ℕ → Bool) (places : ℕ) (sought : List ℕ → Bool) (images : List ℕ) : Type 0 where
+pub record IsSought (bound : ℕ) (fits : List ℕ → ℕ → Bool) (places : ℕ) (sought : List ℕ → Bool)
+    (images : List ℕ) : Type 0 where
   pub is_map : IsMap bound fits images
   pub whole : length images ≡ places
   pub is_sought : sought images ≡ true

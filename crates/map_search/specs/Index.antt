@@ -10,6 +10,7 @@ use Rattle.map_search.specs.declared.table.Entry.{Entry}
 use Rattle.map_search.specs.declared.index.Asked.{Asked}
 use Rattle.map_search.specs.declared.index.Asked.TheVariants.{AsSubject, AsObject, AsBoth, AsSomeSubject, AsSomeObject}
 use Rattle.map_search.specs.Marks.{mark_at}
+use Rattle.rdf_terms.specs.declared.limits.TheConstants.{MOST_QUADS}
 use Rattle.map_search.specs.Table.{TableView, entry_at}
 
 abbrev pub no_quad : Quad
@@ -48,11 +49,14 @@ value_of AsSomeSubject q = q.s
 value_of AsSomeObject q = q.o
 
 abbrev pub entry_for : Asked → Quad → ℕ → Entry
-entry_for asked q k = record { first = first_of asked q; second = second_of asked q; value = value_of asked q; quad = k }
+entry_for asked q k =
+    record { first = first_of asked q; second = second_of asked q; value = value_of asked q; quad = k }
 
 -- the entries are those of the quads, and the marked ones those of the quads that are there
 pub record IsTableOf (asked : Asked) (quads : List Quad) (live : List Bool) (t : TableView) : Type 0 where
-  pub only : (e : ℕ) → e < length t.entries → ((entry_at t.entries e).quad < length quads) × (entry_at t.entries e ≡ entry_for asked (quad_at quads (entry_at t.entries e).quad) (entry_at t.entries e).quad)
+  pub only : (e : ℕ) → e < length t.entries
+      → ((entry_at t.entries e).quad < length quads)
+      × (entry_at t.entries e ≡ entry_for asked (quad_at quads (entry_at t.entries e).quad) (entry_at t.entries e).quad)
   pub all : (k : ℕ) → k < length quads → In (entry_for asked (quad_at quads k) k) t.entries
   pub marked : (e : ℕ) → e < length t.entries → mark_at t.marks e ≡ mark_at live (entry_at t.entries e).quad
 
@@ -68,7 +72,7 @@ graph_of i = kept i.quads i.live
 pub record IsIndex (i : IndexView) (subjects objects both some_subjects some_objects : TableView) : Type 0 where
   pub live_count : length i.live ≡ length i.quads
   pub in_range : (k : ℕ) → k < length i.quads → ((quad_at i.quads k).s < i.terms) × ((quad_at i.quads k).o < i.terms)
-  pub bound : length i.quads ≤ 1000000000
+  pub bound : length i.quads ≤ MOST_QUADS
   pub subjects_are : IsTableOf AsSubject i.quads i.live subjects
   pub objects_are : IsTableOf AsObject i.quads i.live objects
   pub both_are : IsTableOf AsBoth i.quads i.live both
@@ -107,4 +111,5 @@ meets_in H images c t = list_any (gives (asked_by c) (first_asked images c) (sec
 
 -- the triples that are there tell which numbers meet a condition
 abbrev pub IndexTells : Type 0
-IndexTells = (H : List Quad) (terms : ℕ) → ((q : Quad) → In q H → (q.s < terms) × (q.o < terms)) → ((q : Quad) → In q H → q.g ≡ None) → TellsMeets H terms (meets_in H)
+IndexTells = (H : List Quad) (terms : ℕ) → ((q : Quad) → In q H → (q.s < terms) × (q.o < terms))
+    → ((q : Quad) → In q H → q.g ≡ None) → TellsMeets H terms (meets_in H)

@@ -13,7 +13,8 @@ use Rattle.map_search.specs.Laws.{IsInTriple, MeansOfEnding}
 use Rattle.map_search.specs.declared.search.Ending.{Ending}
 use Rattle.map_search.specs.declared.search.Ending.TheVariants.{Found, Nothing, PastLimit}
 
--- the quads are triples by numbers, and `nodes` are the numbers of the terms of the nodes of a walk, each of which stands in a triple
+-- the quads are triples by numbers, and `nodes` are the numbers of the terms of the nodes of a walk, each of which
+-- stands in a triple
 pub record AreNumbers (terms : List Term) (H : List Quad) (nodes walk : List ℕ) : Type 0 where
   pub terms_once : AreDistinct terms
   pub in_range : (q : Quad) → In q H → IsInRange terms q
@@ -40,8 +41,13 @@ MeansByTerms terms H nodes walk limit Nothing = IsTight (map (statement terms) H
 MeansByTerms terms H nodes walk limit PastLimit = HasMoreMaps (map (statement terms) H) (map (statement terms) H) walk limit
 
 abbrev pub EndingsMeanByTerms : Type 0
-EndingsMeanByTerms = (terms : List Term) (H : List Quad) (nodes walk : List ℕ) (limit : ℕ) (ending : Ending) → AreNumbers terms H nodes walk → MeansOfEnding H nodes limit ending → MeansByTerms terms H nodes walk limit ending
+EndingsMeanByTerms =
+    (terms : List Term) (H : List Quad) (nodes walk : List ℕ) (limit : ℕ) (ending : Ending)
+    → AreNumbers terms H nodes walk → MeansOfEnding H nodes limit ending → MeansByTerms terms H nodes walk limit ending
 
 -- maps that say the same reach the same triples
 abbrev pub AgreeingMapsReach : Type 0
-AgreeingMapsReach = (terms : List Term) (H : List Quad) (nodes walk : List ℕ) (μ : ℕ → Term) (m : ℕ → ℕ) → AreNumbers terms H nodes walk → Agrees terms μ m → (q : Quad) → In q H → IsReachedBy m H q ↔ IsReached μ (map (statement terms) H) (statement terms q)
+AgreeingMapsReach =
+    (terms : List Term) (H : List Quad) (nodes walk : List ℕ) (μ : ℕ → Term) (m : ℕ → ℕ) → AreNumbers terms H nodes walk
+    → Agrees terms μ m → (q : Quad) → In q H
+    → IsReachedBy m H q ↔ IsReached μ (map (statement terms) H) (statement terms q)

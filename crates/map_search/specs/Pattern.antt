@@ -86,7 +86,8 @@ pub record IsAskedWhole (nodes : List ℕ) (rows : List (List Condition)) (q : Q
   pub whole : IsWhole condition
   pub asked : IsAsked nodes place q condition
 
--- the rows ask for each place what triples of its node ask, and each triple of G that touches a node is asked as a whole in some row
+-- the rows ask for each place what triples of its node ask, and each triple of G that touches a node is asked as a
+-- whole in some row
 pub record AreRows (G : List Quad) (nodes : List ℕ) (rows : List (List Condition)) : Type 0 where
   pub unnamed : (q : Quad) → In q G → q.g ≡ None
   pub distinct : AreDistinct nodes
@@ -151,7 +152,8 @@ EndsAmong nodes count q = (x : ℕ) → (x ≡ q.s) ⊎ (x ≡ q.o) → In x nod
 pub record IsPartialNodeMap (G H : List Quad) (nodes images : List ℕ) : Type 0 where
   pub within : length images ≤ length nodes
   pub ends : All (IsEndIn H) images
-  pub carries : (q : Quad) → In q G → TouchesOneOf nodes q → EndsAmong nodes (length images) q → In (carried (map_of nodes images) q) H
+  pub carries : (q : Quad) → In q G → TouchesOneOf nodes q → EndsAmong nodes (length images) q
+      → In (carried (map_of nodes images) q) H
 
 pub record HasMoreNodeMaps (G H : List Quad) (nodes : List ℕ) (limit : ℕ) : Type 0 where
   pub maps : List (List ℕ)

@@ -12,7 +12,11 @@ entry_at entries k = slice_index_or entries k no_entry
 
 -- in order of all four numbers
 abbrev pub is_before : Entry → Entry → Bool
-is_before a b = nat_lt a.first b.first || ((a.first == b.first) && (nat_lt a.second b.second || ((a.second == b.second) && (nat_lt a.value b.value || ((a.value == b.value) && nat_lt a.quad b.quad)))))
+is_before a b =
+    nat_lt a.first b.first
+    || ((a.first == b.first)
+    && (nat_lt a.second b.second
+    || ((a.second == b.second) && (nat_lt a.value b.value || ((a.value == b.value) && nat_lt a.quad b.quad)))))
 
 -- each entry is before those behind it
 abbrev pub AreInOrder : List Entry → Type 0

@@ -1,5 +1,5 @@
 //! An index of the triples of a graph by what stands in two of their places.
-ghost use Rattle.std.specs.Prelude.{◌≡◌, ℕ, ◌<◌, ◌≤◌, true, length, slice_index, slice_set, All, IfOk};
+ghost use Rattle.std.specs.Prelude.{◌≡◌, ◌↔◌, ℕ, ◌<◌, ◌≤◌, true, [], IsTrue, length, slice_index, slice_set, All, IfOk};
 ghost use Rattle.map_search.specs.Pattern.{end_at};
 ghost use Rattle.map_search.specs.Marks.{mark_at};
 ghost use Rattle.map_search.specs.Table.{entry_at};
@@ -7,13 +7,13 @@ ghost use Rattle.map_search.specs.Index.{entry_for, quad_at, IsTableOf};
 
 use crate::rows::{Condition, End, Lookup};
 use crate::table::{Entry, Table};
-use rdf_terms::{NoMemory, Quad};
+use rdf_terms::{MOST_QUADS, NoMemory, Quad};
 use std::alloc::Global;
 use std::marker::Model;
 
-/// What is looked for.
+// What is looked for.
 #[derive(Clone, Copy, Debug, PartialEq, Eq)]
-pub enum Asked {
+pub(crate) enum Asked {
     AsSubject,
     AsObject,
     AsBoth,
@@ -59,7 +59,7 @@ fn entry_of(asked: Asked, q: Quad, place: u32) -> Entry
 }
 
 fn entries_of(alloc: Global, asked: Asked, quads: &[Quad]) -> Result<Vec<Entry>, NoMemory>
-    requires { length quads.now ≤ 1000000000 }
+    requires { length quads.now ≤ MOST_QUADS }
     ensures count { IfOk result (λ es. length es.items ≡ length quads.now) }
     ensures each { IfOk result (λ es. (k : ℕ) → k < length quads.now → entry_at es.items k ≡ entry_for asked (quad_at quads.now k) k) }
 {
@@ -71,7 +71,7 @@ fn entries_of(alloc: Global, asked: Asked, quads: &[Quad]) -> Result<Vec<Entry>,
 }
 
 fn table_of(alloc: Global, asked: Asked, quads: &[Quad], live: &[bool]) -> Result<Table, NoMemory>
-    requires bound { length quads.now ≤ 1000000000 }
+    requires bound { length quads.now ≤ MOST_QUADS }
     requires all { (k : ℕ) → k < length quads.now → mark_at live.now k ≡ true }
     ensures { IfOk result (IsTableOf asked quads.now live.now) }
 {
@@ -105,7 +105,7 @@ impl Model for Index {
 impl Index {
     /// All of the quads, whose terms are below a number.
     pub fn build(alloc: Global, quads: &[Quad], terms: u32) -> Result<Self, NoMemory>
-        requires bound { length quads.now ≤ 1000000000 }
+        requires bound { length quads.now ≤ MOST_QUADS }
         requires in_range { All (λ q. q.s < terms) quads.now }
         requires in_range_too { All (λ q. q.o < terms) quads.now }
         ensures quads { IfOk result (λ i. i.quads ≡ quads.now) }
@@ -137,6 +137,12 @@ impl Index {
         ensures live { length self.now.live ≡ length self.now.quads }
     {
         self.quads.len()
+    }
+
+    pub fn is_empty(&self) -> bool
+        ensures { IsTrue result ↔ (self.now.quads ≡ []) }
+    {
+        self.quads.is_empty()
     }
 
     /// The triple at this place.

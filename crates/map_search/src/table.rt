@@ -9,18 +9,18 @@ use rdf_terms::NoMemory;
 use std::alloc::Global;
 use std::marker::Model;
 
-/// A number that is found under the first two, and the place of its triple.
+// A number that is found under the first two, and the place of its triple.
 #[derive(Clone, Copy, Debug, PartialEq, Eq, PartialOrd, Ord)]
-pub struct Entry {
-    pub first: u32,
-    pub second: u32,
-    pub value: u32,
-    pub quad: u32,
+pub(crate) struct Entry {
+    pub(crate) first: u32,
+    pub(crate) second: u32,
+    pub(crate) value: u32,
+    pub(crate) quad: u32,
 }
 
-/// Entries in order, each once, and which of them are there.
+// Entries in order, each once, and which of them are there.
 #[derive(Drop)]
-pub struct Table {
+pub(crate) struct Table {
     entries: Vec<Entry>,
     marks: Marks,
 }
@@ -65,8 +65,8 @@ fn start_of(entries: &[Entry], sought: Entry) -> usize
 }
 
 impl Table {
-    /// The entries, all of which are there.
-    pub fn build(alloc: Global, entries: Vec<Entry>) -> Result<Self, NoMemory>
+    // The entries, all of which are there.
+    pub(crate) fn build(alloc: Global, entries: Vec<Entry>) -> Result<Self, NoMemory>
         requires distinct { AreDistinct entries.items }
         requires bound { length entries.items < 2 ^ 33 }
         ensures permutes { IfOk result (λ t. Permutes entries.items t.entries) }
@@ -78,8 +78,8 @@ impl Table {
         Ok(Table { entries, marks })
     }
 
-    /// The least number from `from` on that is found under these two.
-    pub fn least(&self, first: u32, second: u32, from: u32) -> Option<u32>
+    // The least number from `from` on that is found under these two.
+    pub(crate) fn least(&self, first: u32, second: u32, from: u32) -> Option<u32>
         ensures some { IfSome result (IsLeastValue self.now first second from) }
         ensures none { IfNone result ((value : ℕ) → from ≤ value → ¬ (HasEntry self.now first second value)) }
     {
@@ -107,8 +107,8 @@ impl Table {
         }
     }
 
-    /// How many entries there are under these two, those that have gone among them.
-    pub fn width(&self, first: u32, second: u32) -> usize {
+    // How many entries there are under these two, those that have gone among them.
+    pub(crate) fn width(&self, first: u32, second: u32) -> usize {
         let start = start_of(
             self.entries.as_slice(),
             Entry {
@@ -130,8 +130,8 @@ impl Table {
         end.saturating_sub(start)
     }
 
-    /// Takes the entry away, or back.
-    pub fn set(&mut self, entry: Entry, there: bool)
+    // Takes the entry away, or back.
+    pub(crate) fn set(&mut self, entry: Entry, there: bool)
         requires { In entry self.old.entries }
         ensures entries { self.new.entries ≡ self.old.entries }
         ensures here { (k : ℕ) → k < length self.old.entries → entry_at self.old.entries k ≡ entry → mark_at self.new.marks k ≡ there }

@@ -5,7 +5,7 @@ use Rattle.rdf_terms.specs.Document.{Document}
 use Rattle.nquads_reader.specs.Lines.{lines_of}
 use Rattle.nquads_reader.specs.Pieces.{is_line_end}
 use Rattle.nquads_reader.specs.Feeding.{TakesLines, StopsAt, HasRoom}
-use Rattle.nquads_reader.specs.declared.line.LineFault.{LineFault}
+use Rattle.nquads_reader.specs.declared.fault.LineFault.{LineFault}
 use Rattle.nquads_reader.proofs.Cuts.{lines_begun}
 use Rattle.nquads_reader.proofs.ReadLines.{takes_append, stops_behind, stops_before}
 

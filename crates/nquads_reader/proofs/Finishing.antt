@@ -7,8 +7,8 @@ use Rattle.nquads_reader.specs.Document.{IsNQuads, IsCauseOf}
 use Rattle.nquads_reader.specs.Reading.{fault_at}
 use Rattle.nquads_reader.specs.Pieces.{Reader, ends_with_cr, AreTaken, AreStopped, GoesOn, HasStopped, StandsFor}
 use Rattle.nquads_reader.specs.Feeding.{TakesLines, StopsAt, HasRoom}
-use Rattle.nquads_reader.specs.declared.line.LineFault.{LineFault}
-use Rattle.nquads_reader.specs.declared.line.LineFault.TheVariants.{NotUtf8, BadLine, RelativeIri, NoMemory}
+use Rattle.nquads_reader.specs.declared.fault.LineFault.{LineFault}
+use Rattle.nquads_reader.specs.declared.fault.LineFault.TheVariants.{NotUtf8, BadLine, RelativeIri, NoMemory}
 use Rattle.nquads_reader.specs.declared.fault.ReadFault.{ReadFault}
 use Rattle.nquads_reader.specs.declared.fault.ReadFault.TheVariants.{NoMemory as Memory}
 use Rattle.nquads_reader.proofs.Pieces.{all_read, last_stops, stays_stopped, stopped_cause}

@@ -9,8 +9,8 @@ use Rattle.nquads_reader.specs.Reading.{IsFaultOf, fault_at}
 use Rattle.nquads_reader.specs.Pieces.{ends_with_cr, IsCut, AreTaken, IsFirstFaultOf, AreStopped}
 use Rattle.nquads_reader.specs.Feeding.{behind_line_end, ended_lines, tail_behind, TakesLines, StopsAt}
 use Rattle.nquads_reader.specs.declared.quad.StatedQuad.{StatedQuad}
-use Rattle.nquads_reader.specs.declared.line.LineFault.{LineFault}
-use Rattle.nquads_reader.specs.declared.line.LineFault.TheVariants.{NotUtf8, BadLine, RelativeIri, NoMemory}
+use Rattle.nquads_reader.specs.declared.fault.LineFault.{LineFault}
+use Rattle.nquads_reader.specs.declared.fault.LineFault.TheVariants.{NotUtf8, BadLine, RelativeIri, NoMemory}
 use Rattle.nquads_reader.specs.declared.fault.ReadFault.{ReadFault}
 use Rattle.nquads_reader.specs.declared.fault.ReadFault.TheVariants.{NotUtf8 as NotUtf8In, BadLine as BadLineIn, RelativeIri as RelativeIriIn, TooManyQuads, NoMemory as Memory}
 use Rattle.nquads_reader.proofs.Cuts.{piece_cut, find_cut, lines_cut}

@@ -9,8 +9,8 @@ use Rattle.rdf_terms.specs.Document.{Document, statements}
 use Rattle.rdf_terms.specs.declared.term.Label.{Label}
 use Rattle.nquads_reader.specs.declared.quad.StatedQuad.{StatedQuad}
 use Rattle.nquads_reader.specs.Lines.{lines_of, onto_first}
-use Rattle.nquads_reader.specs.declared.line.LineFault.{LineFault}
-use Rattle.nquads_reader.specs.declared.line.LineFault.TheVariants.{NotUtf8, BadLine, RelativeIri, NoMemory}
+use Rattle.nquads_reader.specs.declared.fault.LineFault.{LineFault}
+use Rattle.nquads_reader.specs.declared.fault.LineFault.TheVariants.{NotUtf8, BadLine, RelativeIri, NoMemory}
 use Rattle.nquads_reader.specs.Document.{IsFaultless, IsLeastFaulty, quads_in, AllState, mentioned, IsStatementOf, AreRead}
 use Rattle.nquads_reader.specs.Reading.{IsFaultOf, Appends, IsBlock, TakesQuads}
 use Rattle.nquads_reader.specs.Feeding.{TakesLines, StopsAt}

@@ -6,7 +6,7 @@ use Rattle.nquads_reader.specs.Lines.{lines_of, begins_with_lf}
 use Rattle.nquads_reader.specs.Document.{AllState}
 use Rattle.nquads_reader.specs.Reading.{IsFaultOf, TakesQuads}
 use Rattle.nquads_reader.specs.declared.quad.StatedQuad.{StatedQuad}
-use Rattle.nquads_reader.specs.declared.line.LineFault.{LineFault}
+use Rattle.nquads_reader.specs.declared.fault.LineFault.{LineFault}
 
 -- ---- bytes
 

@@ -1,4 +1,4 @@
--- The grammar of one line (RDF 1.1 N-Quads, sections 3 and 4), apart from how it is read.
+-- The grammar of one line (RDF 1.1 N-Quads, section 4), apart from how it is read.
 use Rattle.std.specs.Prelude.{◌≡◌, ◌≢◌, ℕ, Bool, true, false, ◌||◌, ◌==◌, ◌⊎◌, [], ◌∷◌, ◌++◌, Option, Some, None, All}
 use Rattle.rdf_terms.specs.Lists.{Text}
 use Rattle.rdf_terms.specs.CanonicalForm.{xsd_string}

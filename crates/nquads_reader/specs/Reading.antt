@@ -11,8 +11,8 @@ use Rattle.nquads_reader.specs.declared.quad.Resource.TheVariants.{Iri, Label}
 use Rattle.nquads_reader.specs.declared.quad.Object.{Object}
 use Rattle.nquads_reader.specs.declared.quad.Object.TheVariants.{Resource as ResourceObject, Literal as LiteralObject}
 use Rattle.nquads_reader.specs.declared.quad.StatedQuad.{StatedQuad}
-use Rattle.nquads_reader.specs.declared.line.LineFault.{LineFault}
-use Rattle.nquads_reader.specs.declared.line.LineFault.TheVariants.{NotUtf8, BadLine, RelativeIri, NoMemory}
+use Rattle.nquads_reader.specs.declared.fault.LineFault.{LineFault}
+use Rattle.nquads_reader.specs.declared.fault.LineFault.TheVariants.{NotUtf8, BadLine, RelativeIri, NoMemory}
 use Rattle.nquads_reader.specs.declared.fault.ReadFault.{ReadFault}
 use Rattle.nquads_reader.specs.declared.fault.ReadFault.TheVariants.{NotUtf8 as NotUtf8In, BadLine as BadLineIn, RelativeIri as RelativeIriIn, NoMemory as Memory}
 

@@ -2,7 +2,9 @@
 ghost use Rattle.std.specs.Prelude.{◌≡◌, ◌<◌, ◌≤◌, length, IfErr, IfSome, IfNone, OnOk, OnErr};
 ghost use Rattle.nquads_reader.specs.Reading.{IsFaultOf, Appends, IsBlock, IsFaultNext};
 
-use crate::line::{LineFault, read_line};
+use crate::MOST_BYTES;
+use crate::fault::LineFault;
+use crate::line::read_line;
 use crate::lines::next_line;
 use crate::quad::StatedQuad;
 use std::alloc::Global;
@@ -38,9 +40,13 @@ fn push_line<'a>(
 
 // Reads lines until they state so many quads, to a line with a fault, or to the end. The quads stand
 // in place of what was there.
-pub(crate) fn read_block<'a>(alloc: Global, bytes: &'a [u8], quads: &mut Vec<StatedQuad<'a>>) -> Block<'a>
+pub(crate) fn read_block<'a>(
+    alloc: Global,
+    bytes: &'a [u8],
+    quads: &mut Vec<StatedQuad<'a>>,
+) -> Block<'a>
     requires some { 0 < length bytes.now }
-    requires few { length bytes.now ≤ 4294967295 }
+    requires few { length bytes.now ≤ MOST_BYTES }
     ensures block { IsBlock bytes.now quads.new.items result.lines result.rest.now }
     ensures fault { IfSome result.fault (IsFaultNext result.rest.now) }
     ensures shorter { IfNone result.fault (length result.rest.now < length bytes.now) }

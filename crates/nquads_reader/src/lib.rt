@@ -24,3 +24,7 @@ mod white;
 
 /// How many distinct quads a document may have.
 pub const MAX_QUADS: u64 = 4_194_304;
+
+/// How many bytes a document may have. Each line and each mention of a label takes one at least, so
+/// that numbers of 32 bits suffice for labels.
+pub const MOST_BYTES: u64 = 4_294_967_295;

@@ -1,52 +1,19 @@
 //! One line: what it states, or its fault.
 ghost use Rattle.std.specs.Prelude.{◌≡◌, ◌↔◌, IfOk, IfErr, IfSome, IsTrue};
 ghost use Rattle.rdf_terms.specs.Terms.{HasScheme};
-ghost use Rattle.nquads_reader.specs.declared.line.LineFault.TheVariants.{NoMemory as Memory};
 ghost use Rattle.nquads_reader.specs.Grammar.{BeginsWithGraphName, BeginsWithTerms, EndsStatement, States};
 ghost use Rattle.nquads_reader.specs.Document.{IsAbsoluteResource, IsAbsoluteObject, IsAbsolute, IsFaultless};
 ghost use Rattle.nquads_reader.specs.Reading.{Reads, IsFaultOf};
 
+use crate::fault::LineFault;
 use crate::quad::{Object, Resource, StatedQuad};
 use crate::terms::{iri, object, resource};
 use crate::white::{after_white, is_optional_comment};
 use iri_resolve::has_scheme;
 use rdf_terms::NoMemory;
 use simdutf8::compat::from_utf8;
-use std::alloc::{AllocError, AllocFailed, Global};
+use std::alloc::Global;
 use terminals::after;
-
-// Why a line was not taken.
-#[derive(Clone, Copy, Debug, PartialEq, Eq)]
-pub(crate) enum LineFault {
-    NotUtf8,
-    BadLine,
-    RelativeIri,
-    NoMemory,
-}
-
-impl From<NoMemory> for LineFault {
-    ghost from_gives = { λ _ e. e ≡ Memory };
-
-    fn from(_: NoMemory) -> Self {
-        LineFault::NoMemory
-    }
-}
-
-impl From<AllocError> for LineFault {
-    ghost from_gives = { λ _ e. e ≡ Memory };
-
-    fn from(_: AllocError) -> Self {
-        LineFault::NoMemory
-    }
-}
-
-impl<T: Drop> From<AllocFailed<T>> for LineFault {
-    ghost from_gives = { λ _ e. e ≡ Memory };
-
-    fn from(_: AllocFailed<T>) -> Self {
-        LineFault::NoMemory
-    }
-}
 
 // The graph name, where no dot stands in its place, and what follows it and white space.
 #[inline(always)]

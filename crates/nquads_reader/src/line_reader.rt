@@ -3,15 +3,13 @@ ghost use Rattle.std.specs.Prelude.{◌≡◌, ◌≤◌, ◌+◌, ◌++◌, ◌
 ghost use Rattle.rdf_terms.specs.Lists.{Text};
 ghost use Rattle.rdf_terms.specs.Document.{statements, IsDocument};
 ghost use Rattle.nquads_reader.specs.Document.{IsNQuads, IsCauseOf};
-ghost use Rattle.nquads_reader.specs.Reading.{fault_at};
 ghost use Rattle.nquads_reader.specs.Pieces.{StandsFor};
 ghost use Rattle.nquads_reader.specs.declared.fault.ReadFault.TheVariants.{NoMemory as Memory};
 
 use crate::cut::ends_in_cr;
-use crate::line::LineFault;
 use crate::read_lines::read_lines;
 use crate::take_piece::take_piece;
-use crate::{MAX_QUADS, ReadFault};
+use crate::{MAX_QUADS, MOST_BYTES, ReadFault};
 use rdf_terms::{Draft, NoMemory, Parsed};
 use std::alloc::Global;
 use std::hash::RandomState;
@@ -35,33 +33,13 @@ impl Model for LineReader {
     ghost use Rattle.std.specs.Prelude.{◌≡◌, ◌≤◌, None, length};
     ghost use Rattle.nquads_reader.specs.Pieces.{Reader};
     ghost use Rattle.nquads_reader.specs.Feeding.{HasRoom};
+    ghost use Rattle.nquads_reader.specs.declared.TheConstants.{MOST_BYTES};
 
     ghost Value = { Reader };
 
     ghost view = { λ r. record { draft = r.draft; tail = r.tail.items; after_cr = r.after_cr; lines = r.lines; fault = r.fault; fed = r.fed } };
 
-    ghost invariant = { λ r. r.fault ≡ None → (r.fed ≤ 4294967295) × HasRoom r.fed r.draft r.lines (length r.tail.items) };
-}
-
-// The fault of a document whose first faulty line has this number and this fault.
-fn read_fault(line: u64, fault: LineFault) -> ReadFault
-    ensures { result ≡ fault_at line fault }
-{
-    match fault {
-        LineFault::NotUtf8 => ReadFault::NotUtf8 { line },
-        LineFault::BadLine => ReadFault::BadLine { line },
-        LineFault::RelativeIri => ReadFault::RelativeIri { line },
-        LineFault::NoMemory => ReadFault::NoMemory,
-    }
-}
-
-fn is_no_memory(fault: ReadFault) -> bool
-    ensures { IsTrue result ↔ (fault ≡ Memory) }
-{
-    match fault {
-        ReadFault::NoMemory => true,
-        _ => false,
-    }
+    ghost invariant = { λ r. r.fault ≡ None → (r.fed ≤ MOST_BYTES) × HasRoom r.fed r.draft r.lines (length r.tail.items) };
 }
 
 impl LineReader {
@@ -100,7 +78,7 @@ impl LineReader {
 
     // Takes the next piece, where no line was refused so far.
     fn take(&mut self, piece: &[u8]) -> Result<(), NoMemory>
-        requires fed { self.old.fed + length piece.now ≤ 4294967295 }
+        requires fed { self.old.fed + length piece.now ≤ MOST_BYTES }
         requires goes_on { self.old.fault ≡ None }
         ensures ok { (bytes : Text) → StandsFor self.old bytes → OnOk result (StandsFor self.new (bytes ++ piece.now)) }
         ensures fed { OnOk result (self.new.fed ≡ self.old.fed + length piece.now) }
@@ -121,11 +99,11 @@ impl LineReader {
                 Ok(())
             }
             Err(fault) => {
-                let fault = read_fault(self.lines + 1, fault);
+                let fault = fault.at_line(self.lines + 1);
                 self.fault = Some(fault);
                 self.tail.clear();
                 self.after_cr = false;
-                if is_no_memory(fault) {
+                if fault.is_no_memory() {
                     return Err(NoMemory);
                 }
                 self.fed += piece.len() as u64;
@@ -137,14 +115,14 @@ impl LineReader {
     /// Takes the next piece. A line that is refused is told by `finish`; what follows it is not read.
     /// Once memory was refused, it is refused ever after.
     pub fn feed(&mut self, piece: &[u8]) -> Result<(), NoMemory>
-        requires { self.old.fed + length piece.now ≤ 4294967295 }
+        requires { self.old.fed + length piece.now ≤ MOST_BYTES }
         ensures ok { (bytes : Text) → StandsFor self.old bytes → OnOk result (StandsFor self.new (bytes ++ piece.now)) }
         ensures fed { OnOk result (self.new.fed ≡ self.old.fed + length piece.now) }
         ensures err { OnErr result ((self.new.fault ≡ Some Memory) × (self.new.fed ≡ self.old.fed)) }
         ensures refused { self.old.fault ≡ Some Memory → OnOk result ⊥ }
     {
         if let Some(fault) = self.fault {
-            if is_no_memory(fault) {
+            if fault.is_no_memory() {
                 return Err(NoMemory);
             }
             self.fed += piece.len() as u64;
@@ -174,7 +152,7 @@ impl LineReader {
         }
         let alloc = *tail.allocator();
         if let Err(fault) = read_lines(alloc, &mut draft, &mut lines, &tail) {
-            return Err(read_fault(lines + 1, fault));
+            return Err(fault.at_line(lines + 1));
         }
         if draft.quad_count() > MAX_QUADS {
             return Err(ReadFault::TooManyQuads);

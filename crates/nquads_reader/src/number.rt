@@ -7,12 +7,12 @@ ghost use Rattle.nquads_reader.specs.Document.{labels_of_resource, labels_of_obj
 ghost use Rattle.nquads_reader.specs.Reading.{IsValidQuad, TakesQuads};
 
 use crate::quad::{Object, Resource, StatedQuad};
-use rdf_terms::{Draft, LabelRef, NoMemory, StatementRef, TermRef};
+use rdf_terms::{Draft, LabelRef, MOST_NUMBERS, MOST_QUADS, NoMemory, StatementRef, TermRef};
 use std::alloc::Global;
 
 #[inline(always)]
 fn resource_term<'a>(draft: &mut Draft, resource: &'a Resource<'_>) -> Result<TermRef<'a>, NoMemory>
-    requires { length draft.old.labels < 4294967295 }
+    requires { length draft.old.labels < MOST_NUMBERS }
     ensures term { IfOk result (λ t. IsResourceTerm draft.new.labels resource.now (term_of t)) }
     ensures labels { OnOk result (AddsAll draft.old.labels (labels_of_resource resource.now) draft.new.labels) }
     ensures grows { OnOk result (length draft.new.labels ≤ length draft.old.labels + 1) }
@@ -29,7 +29,7 @@ fn resource_term<'a>(draft: &mut Draft, resource: &'a Resource<'_>) -> Result<Te
 
 #[inline(always)]
 fn object_term<'a>(draft: &mut Draft, object: &'a Object<'_>) -> Result<TermRef<'a>, NoMemory>
-    requires { length draft.old.labels < 4294967295 }
+    requires { length draft.old.labels < MOST_NUMBERS }
     ensures term { IfOk result (λ t. IsObjectTerm draft.new.labels object.now (term_of t)) }
     ensures labels { OnOk result (AddsAll draft.old.labels (labels_of_object object.now) draft.new.labels) }
     ensures grows { OnOk result (length draft.new.labels ≤ length draft.old.labels + 1) }
@@ -46,7 +46,7 @@ fn graph_name_term<'a>(
     draft: &mut Draft,
     graph_name: &'a Option<Resource<'_>>,
 ) -> Result<Option<TermRef<'a>>, NoMemory>
-    requires { length draft.old.labels < 4294967295 }
+    requires { length draft.old.labels < MOST_NUMBERS }
     ensures term { IfOk result (λ g. IsGraphNameTerm draft.new.labels graph_name.now (graph_name_of g)) }
     ensures labels { OnOk result (AddsAll draft.old.labels (labels_of_graph_name graph_name.now) draft.new.labels) }
     ensures grows { OnOk result (length draft.new.labels ≤ length draft.old.labels + 1) }
@@ -64,7 +64,7 @@ fn statement_ref<'a>(
     draft: &mut Draft,
     quad: &'a StatedQuad<'_>,
 ) -> Result<StatementRef<'a>, NoMemory>
-    requires { length draft.old.labels + 3 ≤ 4294967295 }
+    requires { length draft.old.labels + 3 ≤ MOST_NUMBERS }
     ensures numbers { IfOk result (λ statement. IsStatementOf draft.new.labels quad.now (statement_of statement)) }
     ensures labels { OnOk result (AddsAll draft.old.labels (mentioned quad.now) draft.new.labels) }
     ensures statements { statements draft.new ≡ statements draft.old }
@@ -86,7 +86,7 @@ fn statement_refs<'a>(
     draft: &mut Draft,
     quads: &'a [StatedQuad<'_>],
 ) -> Result<Vec<StatementRef<'a>>, NoMemory>
-    requires { length draft.old.labels + 3 * length quads.now ≤ 4294967295 }
+    requires { length draft.old.labels + 3 * length quads.now ≤ MOST_NUMBERS }
     ensures numbers { IfOk result (λ refs. AllZip (IsStatementOf draft.new.labels) quads.now (map statement_of refs.items)) }
     ensures labels { OnOk result (AddsAll draft.old.labels (flat_map mentioned quads.now) draft.new.labels) }
     ensures statements { statements draft.new ≡ statements draft.old }
@@ -105,8 +105,8 @@ pub(crate) fn take_quads(
     quads: &[StatedQuad<'_>],
 ) -> Result<(), NoMemory>
     requires valid { All IsValidQuad quads.now }
-    requires room { length (statements draft.old) + length quads.now ≤ 1000000000 }
-    requires labels { length draft.old.labels + 3 * length quads.now ≤ 4294967295 }
+    requires room { length (statements draft.old) + length quads.now ≤ MOST_QUADS }
+    requires labels { length draft.old.labels + 3 * length quads.now ≤ MOST_NUMBERS }
     ensures { OnOk result (TakesQuads quads.now draft.old draft.new) }
 {
     let refs = statement_refs(alloc, draft, quads)?;

@@ -3,7 +3,7 @@ ghost use Rattle.std.specs.Prelude.{◌≤◌, length, IfOk, IfErr};
 ghost use Rattle.rdf_terms.specs.Document.{statements, IsDocument};
 ghost use Rattle.nquads_reader.specs.Document.{IsNQuads, IsCauseOf};
 
-use crate::{LineReader, MAX_QUADS, ReadFault};
+use crate::{LineReader, MAX_QUADS, MOST_BYTES, ReadFault};
 use rdf_terms::Parsed;
 use std::alloc::Global;
 use std::hash::RandomState;
@@ -17,7 +17,7 @@ const EXPECTED_LINE: usize = 64;
 /// nodes are numbered from 0 by their first mention, in a line as subject, object and graph name.
 /// The keys are those of the tables' hashes; no answer depends on them.
 pub fn read_nquads(alloc: Global, keys: RandomState, bytes: &[u8]) -> Result<Parsed, ReadFault>
-    requires { length bytes.now ≤ 4294967295 }
+    requires { length bytes.now ≤ MOST_BYTES }
     ensures ok { IfOk result (λ parsed. IsNQuads bytes.now parsed.labels (statements parsed)) }
     ensures within { IfOk result (λ parsed. length (statements parsed) ≤ MAX_QUADS) }
     ensures document { IfOk result IsDocument }

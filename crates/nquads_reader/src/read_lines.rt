@@ -4,10 +4,11 @@ ghost use Rattle.rdf_terms.specs.Document.{statements};
 ghost use Rattle.nquads_reader.specs.Lines.{lines_of};
 ghost use Rattle.nquads_reader.specs.Pieces.{is_line_end};
 ghost use Rattle.nquads_reader.specs.Feeding.{ended_lines, tail_behind, TakesLines, StopsAt, HasRoom};
-ghost use Rattle.nquads_reader.specs.declared.line.LineFault.TheVariants.{NoMemory as Memory};
+ghost use Rattle.nquads_reader.specs.declared.fault.LineFault.TheVariants.{NoMemory as Memory};
 
+use crate::MOST_BYTES;
 use crate::block::read_block;
-use crate::line::LineFault;
+use crate::fault::LineFault;
 use crate::lines::next_line;
 use crate::number::take_quads;
 use rdf_terms::Draft;
@@ -20,7 +21,7 @@ pub(crate) fn read_lines(
     lines: &mut u64,
     bytes: &[u8],
 ) -> Result<(), LineFault>
-    requires { HasRoom 4294967295 draft.old lines.old (length bytes.now) }
+    requires { HasRoom MOST_BYTES draft.old lines.old (length bytes.now) }
     ensures ok { OnOk result (TakesLines (lines_of bytes.now) draft.old draft.new lines.old lines.new) }
     ensures room { OnOk result ((limit behind : ℕ) → HasRoom limit draft.old lines.old (length bytes.now + behind) → HasRoom limit draft.new lines.new behind) }
     ensures err { IfErr result (λ fault. fault ≢ Memory → StopsAt (lines_of bytes.now) fault draft.old draft.new lines.old lines.new) }
@@ -49,7 +50,7 @@ fn read_begun(
     bytes: &[u8],
 ) -> Result<(), LineFault>
     requires some { 0 < length bytes.now }
-    requires room { HasRoom 4294967295 draft.old lines.old (length tail.old.items + length bytes.now) }
+    requires room { HasRoom MOST_BYTES draft.old lines.old (length tail.old.items + length bytes.now) }
     ensures ok { 0 < length tail.old.items → All (λ c. is_line_end c ≡ false) tail.old.items → OnOk result (TakesLines (lines_of (tail.old.items ++ bytes.now)) draft.old draft.new lines.old lines.new) }
     ensures tail { OnOk result (tail.new.items ≡ []) }
     ensures room { OnOk result ((limit behind : ℕ) → HasRoom limit draft.old lines.old (length tail.old.items + length bytes.now + behind) → HasRoom limit draft.new lines.new (length tail.new.items + behind)) }
@@ -72,7 +73,7 @@ pub(crate) fn read_ended(
     tail: &mut Vec<u8>,
     bytes: &[u8],
 ) -> Result<(), LineFault>
-    requires { HasRoom 4294967295 draft.old lines.old (length tail.old.items + length bytes.now) }
+    requires { HasRoom MOST_BYTES draft.old lines.old (length tail.old.items + length bytes.now) }
     ensures ok { All (λ c. is_line_end c ≡ false) tail.old.items → OnOk result (TakesLines (ended_lines tail.old.items bytes.now) draft.old draft.new lines.old lines.new) }
     ensures tail { OnOk result (tail.new.items ≡ tail_behind tail.old.items bytes.now) }
     ensures room { OnOk result ((limit behind : ℕ) → HasRoom limit draft.old lines.old (length tail.old.items + length bytes.now + behind) → HasRoom limit draft.new lines.new (length tail.new.items + behind)) }

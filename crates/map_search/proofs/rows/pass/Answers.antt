@@ -5,7 +5,9 @@ use Rattle.map_search.proofs.Passing.{none_passed, least_on, stays_on}
 use Rattle.map_search.proofs.rows.pass.Goals as goal
 
 pub returns-in-None-clause-none : goal.returns-in-None-clause-none
-returns-in-None-clause-none g c = none_passed (g.L.Lookup.bound c.args.lookup.now) (g.L.Lookup.meets c.args.lookup.now c.args.images.now) c.args.row.now c.loop-condition.condition-index (Subject 0 (Fixed 0)) c.loop-condition-test.true c.args.from c.loop-condition.at c.loop-condition.invariant.least c.in-None.ensures.none
+returns-in-None-clause-none g c =
+    none_passed (g.L.Lookup.bound c.args.lookup.now) (g.L.Lookup.meets c.args.lookup.now c.args.images.now) c.args.row.now c.loop-condition.condition-index
+    (Subject 0 (Fixed 0)) c.loop-condition-test.true c.args.from c.loop-condition.at c.loop-condition.invariant.least c.in-None.ensures.none
 
 pub loop-condition-preserved : goal.loop-condition-preserved
 loop-condition-preserved g c =
@@ -15,6 +17,8 @@ loop-condition-preserved g c =
     record {
       behind = omega arith;
       within = n.within;
-      least = least_on (g.L.Lookup.bound c.args.lookup.now) (g.L.Lookup.meets c.args.lookup.now c.args.images.now) c.args.row.now c.loop-condition.condition-index (Subject 0 (Fixed 0)) c.loop-condition-test.true c.args.from c.loop-condition.at c.loop-condition.invariant.least c.in-Some.next n;
-      stays = stays_on (g.L.Lookup.bound c.args.lookup.now) (g.L.Lookup.meets c.args.lookup.now c.args.images.now) c.args.row.now c.loop-condition.condition-index (Subject 0 (Fixed 0)) c.loop-condition-test.true c.args.from c.loop-condition.at c.loop-condition.invariant.least c.in-Some.next n b c.loop-condition.invariant.stays;
+      least = least_on (g.L.Lookup.bound c.args.lookup.now) (g.L.Lookup.meets c.args.lookup.now c.args.images.now) c.args.row.now c.loop-condition.condition-index
+          (Subject 0 (Fixed 0)) c.loop-condition-test.true c.args.from c.loop-condition.at c.loop-condition.invariant.least c.in-Some.next n;
+      stays = stays_on (g.L.Lookup.bound c.args.lookup.now) (g.L.Lookup.meets c.args.lookup.now c.args.images.now) c.args.row.now c.loop-condition.condition-index
+          (Subject 0 (Fixed 0)) c.loop-condition-test.true c.args.from c.loop-condition.at c.loop-condition.invariant.least c.in-Some.next n b c.loop-condition.invariant.stays;
     }

@@ -5,7 +5,9 @@ use Rattle.map_search.proofs.Steps.{State, total, at_start, past_none, more, go_
 use Rattle.map_search.proofs.search.find_map.Goals as goal
 
 pub returns-then-limit-eq0 : goal.returns-then-limit-eq0
-returns-then-limit-eq0 g c = past_none (g.P.Problem.bound c.args.problem.now) (g.P.Problem.fits c.args.problem.now) (g.P.Problem.places c.args.problem.now) (g.P.Problem.sought c.args.problem.now) c.args.limit c.if-limit-eq0.true
+returns-then-limit-eq0 g c =
+    past_none (g.P.Problem.bound c.args.problem.now) (g.P.Problem.fits c.args.problem.now) (g.P.Problem.places c.args.problem.now)
+    (g.P.Problem.sought c.args.problem.now) c.args.limit c.if-limit-eq0.true
 
 pub maps-init : goal.maps-init
 maps-init g c =
@@ -15,7 +17,8 @@ maps-init g c =
     record {
       limit = omega arith;
       room = omega arith;
-      underway = at_start (g.P.Problem.bound c.args.problem.now) (g.P.Problem.fits c.args.problem.now) c.places-places.result (g.P.Problem.sought c.args.problem.now) c.new-images.result.items c.new-images.ensures.items some;
+      underway = at_start (g.P.Problem.bound c.args.problem.now) (g.P.Problem.fits c.args.problem.now) c.places-places.result
+          (g.P.Problem.sought c.args.problem.now) c.new-images.result.items c.new-images.ensures.items some;
     }
 
 nil : (xs : List ℕ) → length xs ≡ 0 → xs ≡ []
@@ -37,14 +40,18 @@ maps-preserved-in-Some-pop g c =
     record {
       limit = c.maps.invariant.limit;
       room = (let r = c.maps.invariant.room in omega arith);
-      underway = go_back (g.P.Problem.bound c.args.problem.now) (g.P.Problem.fits c.args.problem.now) c.places-places.result (g.P.Problem.sought c.args.problem.now) c.maps.images.items c.pop.new.self.items c.in-Some-pop.last c.maps.from c.maps.tried c.maps.invariant.underway items n;
+      underway = go_back (g.P.Problem.bound c.args.problem.now) (g.P.Problem.fits c.args.problem.now) c.places-places.result
+          (g.P.Problem.sought c.args.problem.now) c.maps.images.items c.pop.new.self.items c.in-Some-pop.last c.maps.from c.maps.tried c.maps.invariant.underway items n;
     }
 
 pub returns-then-tried-limit : goal.returns-then-tried-limit
 returns-then-tried-limit g c =
     let n = rw c.as_slice.ensures.value at c.in-Some.ensures.some in
-    let u = subst (λ k. Underway (g.P.Problem.bound c.args.problem.now) (g.P.Problem.fits c.args.problem.now) k (g.P.Problem.sought c.args.problem.now) (reverse c.maps.images.items) c.maps.from c.maps.tried) c.places-places.ensures.places c.maps.invariant.underway in
-    past_limit (g.P.Problem.bound c.args.problem.now) (g.P.Problem.fits c.args.problem.now) (g.P.Problem.places c.args.problem.now) (g.P.Problem.sought c.args.problem.now) c.maps.images.items c.maps.from c.maps.tried u c.in-Some.image c.args.limit n c.if-tried-limit.true
+    let u = subst
+    (λ k. Underway (g.P.Problem.bound c.args.problem.now) (g.P.Problem.fits c.args.problem.now) k (g.P.Problem.sought c.args.problem.now)
+    (reverse c.maps.images.items) c.maps.from c.maps.tried) c.places-places.ensures.places c.maps.invariant.underway in
+    past_limit (g.P.Problem.bound c.args.problem.now) (g.P.Problem.fits c.args.problem.now) (g.P.Problem.places c.args.problem.now)
+    (g.P.Problem.sought c.args.problem.now) c.maps.images.items c.maps.from c.maps.tried u c.in-Some.image c.args.limit n c.if-tried-limit.true
 
 pub returns-then-is_sought : goal.returns-then-is_sought
 returns-then-is_sought g c =
@@ -65,8 +72,10 @@ pub maps-smaller-then-len-places : goal.maps-smaller-then-len-places
 maps-smaller-then-len-places g c =
     let n = rw c.as_slice.ensures.value at c.in-Some.ensures.some in
     let l : length c.push.new.self.items ≡ length c.maps.images.items + 1 = ap length c.in_ok-push-in-Some.ensures.items ∙ length-append c.maps.images.items (c.in-Some.image ∷ []) in
-    falls (total (g.P.Problem.bound c.args.problem.now) (g.P.Problem.fits c.args.problem.now) c.places-places.result (g.P.Problem.sought c.args.problem.now)) c.maps.tried (length c.maps.images.items) (length c.push.new.self.items)
-    (more (g.P.Problem.bound c.args.problem.now) (g.P.Problem.fits c.args.problem.now) c.places-places.result (g.P.Problem.sought c.args.problem.now) c.maps.images.items c.maps.from c.maps.tried c.maps.invariant.underway c.in-Some.image n) (omega arith)
+    falls (total (g.P.Problem.bound c.args.problem.now) (g.P.Problem.fits c.args.problem.now) c.places-places.result (g.P.Problem.sought c.args.problem.now)) c.maps.tried (length c.maps.images.items)
+    (length c.push.new.self.items)
+    (more (g.P.Problem.bound c.args.problem.now) (g.P.Problem.fits c.args.problem.now) c.places-places.result
+    (g.P.Problem.sought c.args.problem.now) c.maps.images.items c.maps.from c.maps.tried c.maps.invariant.underway c.in-Some.image n) (omega arith)
 
 pub maps-preserved-then-len-places : goal.maps-preserved-then-len-places
 maps-preserved-then-len-places g c =
@@ -77,8 +86,11 @@ maps-preserved-then-len-places g c =
     record {
       limit = omega arith;
       room = omega arith;
-      underway = subst (λ w. Underway (g.P.Problem.bound c.args.problem.now) (g.P.Problem.fits c.args.problem.now) c.places-places.result (g.P.Problem.sought c.args.problem.now) (reverse w) 0 (c.maps.tried + 1)) (sym items)
-          (go_deeper (g.P.Problem.bound c.args.problem.now) (g.P.Problem.fits c.args.problem.now) c.places-places.result (g.P.Problem.sought c.args.problem.now) c.maps.images.items c.maps.from c.maps.tried c.maps.invariant.underway c.in-Some.image n (omega arith));
+      underway = subst
+          (λ w. Underway (g.P.Problem.bound c.args.problem.now) (g.P.Problem.fits c.args.problem.now) c.places-places.result (g.P.Problem.sought c.args.problem.now) (reverse w) 0 (c.maps.tried + 1))
+          (sym items)
+          (go_deeper (g.P.Problem.bound c.args.problem.now) (g.P.Problem.fits c.args.problem.now) c.places-places.result
+          (g.P.Problem.sought c.args.problem.now) c.maps.images.items c.maps.from c.maps.tried c.maps.invariant.underway c.in-Some.image n (omega arith));
     }
 
 pub maps-smaller : goal.maps-smaller
@@ -86,8 +98,10 @@ maps-smaller g c =
     let n = rw c.as_slice.ensures.value at c.in-Some.ensures.some in
     let same : c.drop_last.new.images.items ≡ c.maps.images.items = c.drop_last.ensures c.maps.images.items c.in-Some.image c.in_ok-push-in-Some.ensures.items in
     let l : length c.drop_last.new.images.items ≡ length c.maps.images.items = ap length same in
-    falls (total (g.P.Problem.bound c.args.problem.now) (g.P.Problem.fits c.args.problem.now) c.places-places.result (g.P.Problem.sought c.args.problem.now)) c.maps.tried (length c.maps.images.items) (length c.drop_last.new.images.items)
-    (more (g.P.Problem.bound c.args.problem.now) (g.P.Problem.fits c.args.problem.now) c.places-places.result (g.P.Problem.sought c.args.problem.now) c.maps.images.items c.maps.from c.maps.tried c.maps.invariant.underway c.in-Some.image n) (omega arith)
+    falls (total (g.P.Problem.bound c.args.problem.now) (g.P.Problem.fits c.args.problem.now) c.places-places.result (g.P.Problem.sought c.args.problem.now)) c.maps.tried (length c.maps.images.items)
+    (length c.drop_last.new.images.items)
+    (more (g.P.Problem.bound c.args.problem.now) (g.P.Problem.fits c.args.problem.now) c.places-places.result
+    (g.P.Problem.sought c.args.problem.now) c.maps.images.items c.maps.from c.maps.tried c.maps.invariant.underway c.in-Some.image n) (omega arith)
 
 pub maps-preserved : goal.maps-preserved
 maps-preserved g c =
@@ -101,6 +115,10 @@ maps-preserved g c =
     record {
       limit = omega arith;
       room = omega arith;
-      underway = subst (λ w. Underway (g.P.Problem.bound c.args.problem.now) (g.P.Problem.fits c.args.problem.now) c.places-places.result (g.P.Problem.sought c.args.problem.now) (reverse w) (c.in-Some.image + 1) (c.maps.tried + 1)) (sym same)
-          (pass (g.P.Problem.bound c.args.problem.now) (g.P.Problem.fits c.args.problem.now) c.places-places.result (g.P.Problem.sought c.args.problem.now) c.maps.images.items c.maps.from c.maps.tried c.maps.invariant.underway c.in-Some.image n (omega arith) (sym (ap (g.P.Problem.sought c.args.problem.now) (c.as_slice-else-len-places.ensures.value ∙ items)) ∙ sym c.in_ok-is_sought-in-Some.ensures ∙ c.if-is_sought.false));
+      underway = subst
+          (λ w. Underway (g.P.Problem.bound c.args.problem.now) (g.P.Problem.fits c.args.problem.now) c.places-places.result (g.P.Problem.sought c.args.problem.now) (reverse w) (c.in-Some.image + 1)
+          (c.maps.tried + 1)) (sym same)
+          (pass (g.P.Problem.bound c.args.problem.now) (g.P.Problem.fits c.args.problem.now) c.places-places.result
+          (g.P.Problem.sought c.args.problem.now) c.maps.images.items c.maps.from c.maps.tried c.maps.invariant.underway c.in-Some.image n (omega arith)
+          (sym (ap (g.P.Problem.sought c.args.problem.now) (c.as_slice-else-len-places.ensures.value ∙ items)) ∙ sym c.in_ok-is_sought-in-Some.ensures ∙ c.if-is_sought.false));
     }

@@ -10,7 +10,8 @@ loop-low-preserved-then-is_below c =
     record {
       ordered = omega arith;
       within = i.within;
-      before = more_before c.args.entries.now c.requires c.args.sought (c.loop-low.low + (c.loop-low.high - c.loop-low.low) / 2) (let w = i.within in omega arith) (sym c.is_below.ensures ∙ c.if-is_below.true);
+      before = more_before c.args.entries.now c.requires c.args.sought (c.loop-low.low + (c.loop-low.high - c.loop-low.low) / 2) (let w = i.within in omega arith)
+          (sym c.is_below.ensures ∙ c.if-is_below.true);
       behind = i.behind;
     }
 

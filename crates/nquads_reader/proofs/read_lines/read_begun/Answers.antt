@@ -1,10 +1,11 @@
 use Rattle.std.proofs.Common.{◌≡◌, ◌≢◌, ℕ, ◌+◌, ◌++◌, length, ap, subst, ◌∙◌, arith, length-append}
 use Rattle.std.proofs.lemmas.Result.{err_from_is_err_and, IfErr-weaker, on_ok_weaker}
 use Rattle.rdf_terms.specs.Lists.{Text}
+use Rattle.nquads_reader.specs.declared.TheConstants.{MOST_BYTES}
 use Rattle.nquads_reader.specs.Lines.{lines_of}
 use Rattle.nquads_reader.specs.Feeding.{TakesLines, StopsAt, HasRoom}
-use Rattle.nquads_reader.specs.declared.line.LineFault.{LineFault}
-use Rattle.nquads_reader.specs.declared.line.LineFault.TheVariants.{NoMemory as Memory}
+use Rattle.nquads_reader.specs.declared.fault.LineFault.{LineFault}
+use Rattle.nquads_reader.specs.declared.fault.LineFault.TheVariants.{NoMemory as Memory}
 use Rattle.nquads_reader.proofs.Begun.{room_less, begun_taken, begun_stops, begun_stops_behind}
 use Rattle.nquads_reader.proofs.read_lines.read_begun.Goals as goal
 
@@ -20,8 +21,8 @@ returns-in_err-read_lines-clause-err c =
 pub read_lines-requires-2 : goal.read_lines-requires-2
 read_lines-requires-2 c =
     let gathered : c.deref.result.now ≡ c.args.tail.now.items ++ c.next_line.result.0.now = c.deref.ensures.value ∙ c.in_ok-extend_from_slice.ensures.items in
-    c.in_ok-read_lines.ensures.room 4294967295 (length c.next_line.result.1.now)
-    (room_less 4294967295 c.args.draft.now c.args.lines.now (length c.args.tail.now.items + length c.args.bytes.now) (length c.deref.result.now + length c.next_line.result.1.now)
+    c.in_ok-read_lines.ensures.room MOST_BYTES (length c.next_line.result.1.now)
+    (room_less MOST_BYTES c.args.draft.now c.args.lines.now (length c.args.tail.now.items + length c.args.bytes.now) (length c.deref.result.now + length c.next_line.result.1.now)
     (omega (arith, ap length gathered, length-append c.args.tail.now.items c.next_line.result.0.now, c.next_line.ensures.within)) c.requires.room)
 
 pub returns-clause-ok : goal.returns-clause-ok

@@ -9,7 +9,8 @@ invariant-loop-at l = record {
   count : length l.self-inside.marks.items ≡ 2 * l.self-inside.width;
   some : 0 < l.at;
   within : l.at < 2 * l.self-inside.width;
-  above : (p : ℕ) → 0 < p → 2 * p + 1 < length l.self-inside.marks.items → (p ≡ l.at / 2 → ⊥) → mark_at l.self-inside.marks.items p ≡ (mark_at l.self-inside.marks.items (2 * p) || mark_at l.self-inside.marks.items (2 * p + 1));
+  above : (p : ℕ) → 0 < p → 2 * p + 1 < length l.self-inside.marks.items → (p ≡ l.at / 2 → ⊥)
+      → mark_at l.self-inside.marks.items p ≡ (mark_at l.self-inside.marks.items (2 * p) || mark_at l.self-inside.marks.items (2 * p + 1));
   leaves : (k : ℕ) → l.self-inside.width ≤ k → mark_at l.self-inside.marks.items k ≡ mark_at l.initial.self-inside.marks.items k;
 }
 

@@ -9,7 +9,8 @@ use Rattle.map_search.proofs.table.Table.set.Goals as goal
 pub set-requires : goal.set-requires
 set-requires c =
     let s = subst (λ xs. IsStart xs c.args.entry c.start_of-place.result) c.as_slice.ensures.value c.start_of-place.ensures in
-    let p = start_is c.self.inside.entries.items c.self.invariant.in_order c.args.entry c.start_of-place.result s (subst (λ (v : TableView). In c.args.entry v.entries) (sym c.self.view_is) c.requires) in
+    let p = start_is c.self.inside.entries.items c.self.invariant.in_order c.args.entry c.start_of-place.result s
+    (subst (λ (v : TableView). In c.args.entry v.entries) (sym c.self.view_is) c.requires) in
     let r = c.self.invariant.room in
     let q = p.0 in
     omega arith
@@ -17,14 +18,17 @@ set-requires c =
 pub returns-clause-here : goal.returns-clause-here
 returns-clause-here c k l e =
     let s = subst (λ xs. IsStart xs c.args.entry c.start_of-place.result) c.as_slice.ensures.value c.start_of-place.ensures in
-    let p = start_is c.self.inside.entries.items c.self.invariant.in_order c.args.entry c.start_of-place.result s (subst (λ (v : TableView). In c.args.entry v.entries) (sym c.self.view_is) c.requires) in
+    let p = start_is c.self.inside.entries.items c.self.invariant.in_order c.args.entry c.start_of-place.result s
+    (subst (λ (v : TableView). In c.args.entry v.entries) (sym c.self.view_is) c.requires) in
     let same = ap (λ (v : TableView). v.entries) (sym c.self.view_is) in
-    let is : k ≡ c.start_of-place.result = once c.self.inside.entries.items c.self.invariant.in_order c.args.entry k c.start_of-place.result (subst (λ (xs : List Entry). k < length xs) same l) p.0 (subst (λ (xs : List Entry). entry_at xs k ≡ c.args.entry) same e ∙ sym p.1) in
+    let is : k ≡ c.start_of-place.result = once c.self.inside.entries.items c.self.invariant.in_order c.args.entry k c.start_of-place.result (subst (λ (xs : List Entry). k < length xs) same l) p.0
+    (subst (λ (xs : List Entry). entry_at xs k ≡ c.args.entry) same e ∙ sym p.1) in
     ap (mark_at c.set.new.self) is ∙ c.set.ensures.here
 
 pub returns-clause-others : goal.returns-clause-others
 returns-clause-others c k l n =
     let s = subst (λ xs. IsStart xs c.args.entry c.start_of-place.result) c.as_slice.ensures.value c.start_of-place.ensures in
-    let p = start_is c.self.inside.entries.items c.self.invariant.in_order c.args.entry c.start_of-place.result s (subst (λ (v : TableView). In c.args.entry v.entries) (sym c.self.view_is) c.requires) in
+    let p = start_is c.self.inside.entries.items c.self.invariant.in_order c.args.entry c.start_of-place.result s
+    (subst (λ (v : TableView). In c.args.entry v.entries) (sym c.self.view_is) c.requires) in
     let same = ap (λ (v : TableView). v.entries) (sym c.self.view_is) in
     c.set.ensures.others k (λ e. n (ap (λ (xs : List Entry). entry_at xs k) same ∙ ap (entry_at c.self.inside.entries.items) e ∙ p.1)) ∙ ap (λ (v : TableView). mark_at v.marks k) c.self.view_is

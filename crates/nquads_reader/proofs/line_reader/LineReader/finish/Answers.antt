@@ -19,7 +19,7 @@ returns-in-Err-clause-err c bytes stands =
     let fault = c.in-Err.fault in
     let new : Document = c.read_lines.new.draft in
     let n = c.read_lines.new.lines in
-    subst (IsCauseOf bytes) (sym c.read_fault.ensures) (last_cause c.args.self bytes none stands new n fault
+    subst (IsCauseOf bytes) (sym c.at_line.ensures) (last_cause c.args.self bytes none stands new n fault
     (λ other.
     subst (λ (r : Reader). StopsAt (lines_of r.tail) fault r.draft new r.lines n) c.self.view_is
     (subst (λ t. StopsAt (lines_of t) fault c.self.inside.draft new c.self.inside.lines n) c.deref.ensures.value (c.in-Err.ensures.err other))))
