@@ -16,7 +16,7 @@ use Rattle.rdf_terms.proofs.Adding.{statement_injective}
 use Rattle.graph_model.specs.Graphs.{mapped, mapped_triple, IsReached}
 use Rattle.graph_model.specs.Components.{IsMapOf, IsTight, Touches, IsTripleOf}
 use Rattle.graph_model.specs.Counts.{IsEnd, MentionsOnly, IsPartialMap, HasMoreMaps, IsBeginning, HasMoreBeginnings}
-use Rattle.graph_model.proofs.Maps.{by_subject, by_object, or_cases, eqb-itself}
+use Rattle.graph_model.proofs.Maps.{by_subject, by_object, eqb-itself}
 use Rattle.graph_model.proofs.Closed.{decide_in}
 use Rattle.map_search.specs.Pattern.{carried, map_of, IsNodeMap, TouchesOneOf, IsReachedBy, ReachesAll, IsEndIn, EndsAmong, IsPartialNodeMap, HasMoreNodeMaps, IsNodeBeginning, HasMoreNodeBeginnings}
 use Rattle.map_search.specs.Laws.{IsInTriple, MeansOfEnding}
