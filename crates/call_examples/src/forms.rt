@@ -2,6 +2,7 @@
 use crate::documents::{TWO_CHAINS, TWO_NODES, dataset_of};
 use canon_core::{Canon, canonicalise};
 use canon_model::Profile;
+use dataset_index::Dataset;
 use iso_compare::{Verdict, compare};
 use ndegree_hash::Stop;
 use std::alloc::Global;
@@ -52,8 +53,8 @@ fn assert_none(rt: &impl Abort, there: bool) {
     assert!(rt; !there);
 }
 
-// The form comes where the limit is just enough, and not below.
-fn expect_form(
+// The form comes where the limit is just enough.
+fn expect_run(
     rt: &impl Abort,
     alloc: Global,
     keys: RandomState,
@@ -61,9 +62,23 @@ fn expect_form(
     want: Run<'_>,
 ) -> Result<(), Fail> {
     match form_of(alloc, keys, text, want.units)? {
-        Some(canon) => assert_run(rt, &canon, want),
-        None => return Err(Fail::from("a run takes more units than it should")),
+        Some(canon) => {
+            assert_run(rt, &canon, want);
+            Ok(())
+        }
+        None => Err(Fail::from("a run takes more units than it should")),
     }
+}
+
+// And not below.
+fn expect_form(
+    rt: &impl Abort,
+    alloc: Global,
+    keys: RandomState,
+    text: &str,
+    want: Run<'_>,
+) -> Result<(), Fail> {
+    expect_run(rt, alloc, keys, text, want)?;
     let below = has_form(alloc, keys, text, want.units.saturating_sub(1))?;
     assert_none(rt, below);
     Ok(())
@@ -117,8 +132,22 @@ fn is_limit(want: Wanted<'_>) -> bool {
     }
 }
 
-// Whether the comparison of two documents ends so.
+// Whether the comparison of two datasets ends so.
 fn is_verdict(
+    alloc: Global,
+    dataset: &Dataset,
+    other: &Dataset,
+    limit: u64,
+    want: Wanted<'_>,
+) -> Result<bool, Fail> {
+    match compare(alloc, dataset, other, limit) {
+        Ok(verdict) => Ok(is_wanted(&verdict, want)),
+        Err(Stop::WorkLimit) => Ok(is_limit(want)),
+        Err(Stop::NoMemory) => Err(Fail::from("memory was refused")),
+    }
+}
+
+fn is_verdict_of_texts(
     alloc: Global,
     keys: RandomState,
     texts: [&str; 2],
@@ -127,11 +156,7 @@ fn is_verdict(
 ) -> Result<bool, Fail> {
     let dataset = dataset_of(alloc, keys, texts[0])?;
     let other = dataset_of(alloc, keys, texts[1])?;
-    match compare(alloc, &dataset, &other, limit) {
-        Ok(verdict) => Ok(is_wanted(&verdict, want)),
-        Err(Stop::WorkLimit) => Ok(is_limit(want)),
-        Err(Stop::NoMemory) => Err(Fail::from("memory was refused")),
-    }
+    is_verdict(alloc, &dataset, &other, limit, want)
 }
 
 fn assert_verdict(rt: &impl Abort, holds: bool, limit: u64) {
@@ -150,7 +175,7 @@ fn datasets_are_compared_by_their_forms(rt: HostRuntime) -> Result<(), Fail> {
         ([named, TWO_NODES], 11, Wanted::Limit),
     ];
     for (texts, limit, want) in cases {
-        let holds = is_verdict(rt.alloc(), keys, texts, limit, want)?;
+        let holds = is_verdict_of_texts(rt.alloc(), keys, texts, limit, want)?;
         assert_verdict(&rt, holds, limit);
     }
     Ok(())

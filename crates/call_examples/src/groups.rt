@@ -3,7 +3,7 @@
 ghost use Rattle.std.specs.Prelude.{◌<◌, length};
 
 use crate::documents::{TWO_NODES, dataset_of};
-use canon_model::{Position, Profile, Related};
+use canon_model::{HexHash, Position, Profile, Related};
 use dataset_index::Dataset;
 use first_degree::FirstTable;
 use id_issuer::Issuer;
@@ -52,6 +52,20 @@ fn groups_of_first(alloc: Global, dataset: &Dataset, profile: Profile) -> Result
 // Whether the first node has two groups with these hashes, both of these nodes.
 fn has_groups(
     alloc: Global,
+    dataset: &Dataset,
+    profile: Profile,
+    hashes: [&str; 2],
+    nodes: &[u32],
+) -> Result<bool, Fail> {
+    if dataset.node_count() == 0 {
+        return Err(Fail::from("the document has no blank node"));
+    }
+    let found = groups_of_first(alloc, dataset, profile)?;
+    Ok(are_two(&found, hashes, nodes))
+}
+
+fn has_groups_of_text(
+    alloc: Global,
     keys: RandomState,
     text: &str,
     profile: Profile,
@@ -59,11 +73,7 @@ fn has_groups(
     nodes: &[u32],
 ) -> Result<bool, Fail> {
     let dataset = dataset_of(alloc, keys, text)?;
-    if dataset.node_count() == 0 {
-        return Err(Fail::from("the document has no blank node"));
-    }
-    let found = groups_of_first(alloc, &dataset, profile)?;
-    Ok(are_two(&found, hashes, nodes))
+    has_groups(alloc, &dataset, profile, hashes, nodes)
 }
 
 fn assert_groups(rt: &impl Abort, holds: bool, text: &str) {
@@ -87,14 +97,48 @@ fn the_groups_of_the_first_of_two_nodes(rt: HostRuntime) -> Result<(), Fail> {
         (IN_TWO_GRAPHS, ONCE, twice, &[1]),
     ];
     for (text, profile, hashes, nodes) in cases {
-        let holds = has_groups(rt.alloc(), keys, text, profile, hashes, nodes)?;
+        let holds = has_groups_of_text(rt.alloc(), keys, text, profile, hashes, nodes)?;
         assert_groups(&rt, holds, text);
     }
     Ok(())
 }
 
-// Whether the related hash of the node is this, where the canonical issuer lists node 0 and the temporary one node 1.
+// The related hash of the node, where the canonical issuer lists node 0 and the temporary one node 1.
+fn hash_of(alloc: Global, first: &HexHash, node: u32, position: Position) -> Result<HexHash, Fail> {
+    let mut canon = Issuer::new(alloc, Prefix::Canonical);
+    let mut issuer = Issuer::new(alloc, Prefix::Temporary);
+    canon.issue(0)?;
+    issuer.issue(1)?;
+    Ok(related(
+        first,
+        &canon,
+        &issuer,
+        node,
+        "http://e/p",
+        position,
+        Profile::DEFAULT,
+    ))
+}
+
+// Whether the node has this related hash, where its first-degree hash is that of the first node of the dataset.
 fn is_related(
+    alloc: Global,
+    dataset: &Dataset,
+    node: u32,
+    position: Position,
+    hash: &str,
+) -> Result<bool, Fail> {
+    let table = FirstTable::build(alloc, dataset, Profile::DEFAULT)?;
+    match table.all().first() {
+        Some(first) => {
+            let found = hash_of(alloc, first, node, position)?;
+            Ok(found.as_bytes() == hash.as_bytes())
+        }
+        None => Ok(false),
+    }
+}
+
+fn is_related_in_text(
     alloc: Global,
     keys: RandomState,
     node: u32,
@@ -102,26 +146,7 @@ fn is_related(
     hash: &str,
 ) -> Result<bool, Fail> {
     let dataset = dataset_of(alloc, keys, TWO_NODES)?;
-    let table = FirstTable::build(alloc, &dataset, Profile::DEFAULT)?;
-    let mut canon = Issuer::new(alloc, Prefix::Canonical);
-    let mut issuer = Issuer::new(alloc, Prefix::Temporary);
-    canon.issue(0)?;
-    issuer.issue(1)?;
-    match table.all().first() {
-        Some(first) => {
-            let found = related(
-                first,
-                &canon,
-                &issuer,
-                node,
-                "http://e/p",
-                position,
-                Profile::DEFAULT,
-            );
-            Ok(found.as_bytes() == hash.as_bytes())
-        }
-        None => Ok(false),
-    }
+    is_related(alloc, &dataset, node, position, hash)
 }
 
 fn assert_related(rt: &impl Abort, holds: bool, hash: &str) {
@@ -154,7 +179,7 @@ fn a_related_node_goes_by_its_identifier_or_its_hash(rt: HostRuntime) -> Result<
         ),
     ];
     for (node, position, hash) in cases {
-        let holds = is_related(rt.alloc(), keys, node, position, hash)?;
+        let holds = is_related_in_text(rt.alloc(), keys, node, position, hash)?;
         assert_related(&rt, holds, hash);
     }
     Ok(())

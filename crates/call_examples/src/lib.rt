@@ -1,4 +1,4 @@
-//! Worked examples of calls on documents: in pieces, by node, and whole.
+//! Worked examples of calls on documents: by node, and whole.
 #![tactic(auto)]
 
 #[cfg(test)]
@@ -9,5 +9,3 @@ mod documents;
 mod forms;
 #[cfg(test)]
 mod groups;
-#[cfg(test)]
-mod pieces;

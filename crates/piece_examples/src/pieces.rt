@@ -98,8 +98,26 @@ fn are_same_quads(quads: &[Quad], others: &[Quad]) -> bool {
     quads == others
 }
 
+fn is_same_label(label: &Label, other: &Label) -> bool {
+    match label {
+        Label::Named(text) => match other {
+            Label::Named(name) => text.as_str() == name.as_str(),
+            Label::Anonymous(_) => false,
+        },
+        Label::Anonymous(number) => match other {
+            Label::Named(_) => false,
+            Label::Anonymous(other) => *number == *other,
+        },
+    }
+}
+
 fn are_same_labels(labels: &[Label], others: &[Label]) -> bool {
-    labels == others
+    for (label, other) in labels.iter().zip(others.iter()) {
+        if !is_same_label(label, other) {
+            return false;
+        }
+    }
+    labels.len() == others.len()
 }
 
 fn is_same_document(parsed: &Parsed, other: &Parsed) -> bool {

@@ -1,0 +1,5 @@
+//! Worked examples of documents that come in pieces.
+#![tactic(auto)]
+
+#[cfg(test)]
+mod pieces;
