@@ -8,7 +8,7 @@ use Rattle.char_tables.specs.Classes.{excluded_from_iriref, may_stand_in_iriref}
 use Rattle.rdf_terms.specs.Lists.{Text}
 use Rattle.rdf_terms.specs.Terms.{HasScheme, is_excluded}
 use Rattle.terminals.proofs.Facts.{iri_characters}
-use Rattle.rdfc_cli.specs.Words.{IsBase}
+use Rattle.trig_builder.specs.Building.{IsWhole as IsBase}
 
 prefix_len-all : (p : ℕ → Bool) (xs : List ℕ) → All (λ c. p c ≡ true) xs → prefix_len p xs ≡ length xs
 prefix_len-all p [] all = refl

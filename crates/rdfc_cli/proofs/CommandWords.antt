@@ -7,7 +7,8 @@ use Rattle.rdf_terms.proofs.Membership.{In-map, from_In-map}
 use Rattle.rdf_terms.proofs.Numerals.{IsDigit, In-numeral, numeral-injective}
 use Rattle.canon_model.specs.declared.profile.HashKind.TheVariants.{Sha256}
 use Rattle.canon_model.specs.declared.profile.Related.TheVariants.{Each}
-use Rattle.rdfc_cli.specs.Words.{Command, Given, Syntax, task_word, command_word, operands, option_name, spelled_option, name_word, given_base, given_trig, HasGoodOperands, HasGoodValue, IsBase, TakesOption, IsCommand, IsNoCommand, settings_in, syntax_in}
+use Rattle.trig_builder.specs.Building.{IsWhole as IsBase}
+use Rattle.rdfc_cli.specs.Words.{Command, Given, Syntax, task_word, command_word, operands, option_name, spelled_option, name_word, given_base, given_trig, HasGoodOperands, HasGoodValue, TakesOption, IsCommand, IsNoCommand, settings_in, syntax_in}
 use Rattle.rdfc_cli.specs.Words.Command.{on_file, compare, lean, load}
 use Rattle.rdfc_cli.specs.Words.Given.{limit, hash, related, as_map, as_trig, base}
 use Rattle.rdfc_cli.specs.Words.Syntax.{nquads, trig}

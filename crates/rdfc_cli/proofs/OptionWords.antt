@@ -260,3 +260,15 @@ read_name options name g (w ∷ ws) more b m =
 -- the words behind the name are its value and the rest
 read_value : (options : Chosen) (g : Given) (w : Text) (ws more : List Text) → MayRead options g (w ∷ ws) more → ws ≡ option_value g ++ more
 read_value options g w ws more m = tail_same w (name_word (option_name g)) ws (option_value g ++ more) m.spelled
+
+-- an option that is spelled as a base is one
+pub base_only : {A : Type 0} (chosen : Chosen) (value : Text) (o : Option A) → IfNone o ((iri : Text) → ¬ (MayFollow chosen (base iri) (name_word Base ∷ value ∷ [])))
+    → IfNone o ((given : Given) → ¬ (MayFollow chosen given (name_word Base ∷ value ∷ [])))
+base_only chosen value (Some x) none = tt
+base_only chosen value None none = only
+  where
+    only : (given : Given) → ¬ (MayFollow chosen given (name_word Base ∷ value ∷ []))
+    only (base iri) m = none iri m
+    only g m =
+        let named : option_name g ≡ Base = name_word-injective (option_name g) Base (head_same (name_word (option_name g)) (name_word Base) (option_value g) (value ∷ []) m.spelled) in
+        cc

@@ -1,12 +1,12 @@
 -- The grammar of the command line: a command, its options in any order, and its operands.
-use Rattle.std.specs.Prelude.{◌≡◌, ◌≢◌, ◌==◌, if◌then◌else◌, ℕ, ◌≤◌, Bool, true, false, List, [], ◌∷◌, ◌++◌, Option, Some, None, All, flat_map, map, codes, unwrap_or}
+use Rattle.std.specs.Prelude.{◌≡◌, ◌≢◌, ◌==◌, if◌then◌else◌, ℕ, ◌≤◌, Bool, true, false, List, [], ◌∷◌, ◌++◌, Option, Some, None, flat_map, map, codes, unwrap_or}
 use Rattle.rdf_terms.specs.Lists.{Text, In, AreDistinct}
 use Rattle.rdf_terms.specs.Numeral.{numeral}
-use Rattle.rdf_terms.specs.Terms.{HasScheme, is_excluded}
 use Rattle.canon_model.specs.declared.profile.HashKind.{HashKind}
 use Rattle.canon_model.specs.declared.profile.HashKind.TheVariants.{Sha256, Sha384}
 use Rattle.canon_model.specs.declared.profile.Related.{Related as Reading}
 use Rattle.canon_model.specs.declared.profile.Related.TheVariants.{Each, Once}
+use Rattle.trig_builder.specs.Building.{IsWhole as IsBase}
 use Rattle.load_document.specs.declared.generator.TheConstants.{LEAST_NUMBER, GREATEST_NUMBER}
 use Rattle.rdfc_cli.specs.declared.options.TheConstants.{LEAST_LIMIT, GREATEST_LIMIT, DEFAULT_LIMIT}
 use Rattle.rdfc_cli.specs.declared.options.OptionName.{OptionName}
@@ -107,12 +107,7 @@ option_value (base iri) = iri ∷ []
 abbrev pub spelled_option : Given → List Text
 spelled_option given = name_word (option_name given) ∷ option_value given
 
--- a base has a scheme and no excluded character (RFC 3986, section 5.1)
-pub record IsBase (iri : Text) : Type 0 where
-  pub has_scheme : HasScheme iri
-  pub allowed : All (λ c. is_excluded c ≡ false) iri
-
--- the values that an option may have
+-- The values that an option may have. A base is an IRI with a scheme (RFC 3986, section 5.1).
 abbrev pub HasGoodValue : Given → Type 0
 HasGoodValue (limit n) = (LEAST_LIMIT ≤ n) × (n ≤ GREATEST_LIMIT)
 HasGoodValue (hash kind) = Unit {0}

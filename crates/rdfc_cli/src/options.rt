@@ -5,7 +5,8 @@ ghost use Rattle.rdf_terms.specs.Lists.{Text};
 ghost use Rattle.rdf_terms.specs.Numeral.{numeral};
 ghost use Rattle.canon_model.specs.declared.profile.HashKind.{HashKind};
 ghost use Rattle.canon_model.specs.declared.profile.Related.{Related};
-ghost use Rattle.rdfc_cli.specs.Words.{Given, IsBase, name_word, hash_word, related_word, settings_in};
+ghost use Rattle.trig_builder.specs.Building.{IsWhole as IsBase};
+ghost use Rattle.rdfc_cli.specs.Words.{Given, name_word, hash_word, related_word, settings_in};
 ghost use Rattle.rdfc_cli.specs.Words.Given.{limit as limit_given, hash as hash_given, related as related_given, as_map as map_given, as_trig as trig_given, base as base_given};
 ghost use Rattle.rdfc_cli.specs.Options.{chosen, chosen_by, chosen_syntax, MayFollow, MayRead, Adds, Reads, AreOptions, AreNoOptions, BeginsNoOption, BeginsWithName, LeavesProfile, LeavesSyntax, HasFittingBase};
 ghost use Rattle.rdfc_cli.specs.Requests.{syntax_of};
@@ -64,6 +65,13 @@ pub(crate) struct Options<'a> {
     map: bool,
     trig: bool,
     base: Option<&'a str>,
+}
+
+/// The options that were read so far, and the words that are left.
+#[derive(Clone, Copy)]
+pub(crate) struct Reading<'a> {
+    pub options: Options<'a>,
+    pub rest: &'a [String],
 }
 
 fn name_of(word: &str) -> Option<OptionName>
@@ -310,45 +318,39 @@ fn first_name(words: &[String]) -> Option<OptionName>
     name_of(words.first()?.as_str())
 }
 
-// These and the option of this name that the words begin with, and the words behind it. `None` where it was read
-// before, or is spelled wrong.
-fn read_option<'a>(
-    options: Options<'a>,
-    name: OptionName,
-    words: &'a [String],
-) -> Option<(Options<'a>, &'a [String])>
-    requires { BeginsWithName (map string_bytes words.now) name }
-    ensures some { IfSome result (λ r. Reads (chosen options.entry) (map string_bytes words.now) (chosen r.0) (map string_bytes r.1.now)) }
-    ensures none { IfNone result ((given : Given) (rest : List Text) → ¬ (MayRead (chosen options.entry) given (map string_bytes words.now) rest)) }
-    ensures fewer { IfSome result (λ r. length r.1.now < length words.now) }
-{
-    let (_, behind) = words.split_first()?;
-    match name {
-        OptionName::Map => Some((options.with_map()?, behind)),
-        OptionName::TriG => Some((options.with_trig()?, behind)),
-        _ => {
-            let (value, rest) = behind.split_first()?;
-            Some((options.with(name, value.as_str())?, rest))
-        }
+impl<'a> Reading<'a> {
+    // With the option of this name that the words begin with. `None` where it was read before, or is spelled wrong.
+    fn read_option(self, name: OptionName) -> Option<Self>
+        requires { BeginsWithName (map string_bytes self.rest.now) name }
+        ensures some { IfSome result (λ r. Reads (chosen self.entry.options) (map string_bytes self.entry.rest.now) (chosen r.options) (map string_bytes r.rest.now)) }
+        ensures none { IfNone result ((given : Given) (rest : List Text) → ¬ (MayRead (chosen self.entry.options) given (map string_bytes self.entry.rest.now) rest)) }
+        ensures fewer { IfSome result (λ r. length r.rest.now < length self.entry.rest.now) }
+    {
+        let (_, behind) = self.rest.split_first()?;
+        let (options, rest) = match name {
+            OptionName::Map => (self.options.with_map()?, behind),
+            OptionName::TriG => (self.options.with_trig()?, behind),
+            _ => {
+                let (value, rest) = behind.split_first()?;
+                (self.options.with(name, value.as_str())?, rest)
+            }
+        };
+        Some(Reading { options, rest })
     }
 }
 
 /// The options that the words begin with, and the words behind them. `None` where an option is spelled wrong, or is
 /// there twice.
-pub(crate) fn read_options<'a>(words: &'a [String]) -> Option<(Options<'a>, &'a [String])>
-    ensures some { IfSome result (λ r. AreOptions (map string_bytes words.now) (chosen r.0) (map string_bytes r.1.now)) }
+pub(crate) fn read_options(words: &[String]) -> Option<Reading<'_>>
+    ensures some { IfSome result (λ r. AreOptions (map string_bytes words.now) (chosen r.options) (map string_bytes r.rest.now)) }
     ensures none { IfNone result (AreNoOptions (map string_bytes words.now)) }
 {
-    let mut options = Options::none();
-    let mut rest = words;
-    while let Some(name) = first_name(rest) {
-        match read_option(options, name, rest) {
-            Some((more, behind)) => {
-                options = more;
-                rest = behind;
-            }
-            None => return None,
-        }
+    let mut reading = Reading {
+        options: Options::none(),
+        rest: words,
+    };
+    while let Some(name) = first_name(reading.rest) {
+        reading = reading.read_option(name)?;
     }
-    Some((options, rest))
+    Some(reading)
 }

@@ -7,7 +7,7 @@ ghost use Rattle.rdfc_cli.specs.Options.{AreTaken, chosen};
 ghost use Rattle.rdfc_cli.specs.Requests.{command_of, IsRequest, IsSpelled};
 ghost use Rattle.rdfc_cli.specs.declared.words.Task.{Task};
 
-use crate::options::{Options, Settings, Syntax, number_within, read_options};
+use crate::options::{Options, Reading, Settings, Syntax, number_within, read_options};
 use load_document::{GREATEST_NUMBER, LEAST_NUMBER};
 
 /// What is to be done with a file.
@@ -175,7 +175,10 @@ pub fn read_words(words: &[String]) -> Option<Request<'_>>
     ensures none { IfNone result (IsNoCommand (map string_bytes words.now)) }
 {
     let (word, more) = words.split_first()?;
-    let (options, operands) = read_options(more)?;
+    let Reading {
+        options,
+        rest: operands,
+    } = read_options(more)?;
     let command = read_command(word.as_str(), operands)?;
     let syntax = options.syntax()?;
     if command.takes(&options) {
