@@ -73,20 +73,20 @@ not_unsettled ρ D t settled u =
 
 -- ---- one file, read in two ways
 
-module _ (settings : Settings) (file : FileSeen) (content read : Content) (fine : IsFine file settings content) (accepts : IfSome file.told (λ bytes. Accepts bytes read)) where
-  accepted : Accepts fine.bytes read
-  accepted = of_told file.told fine.bytes (λ bytes. Accepts bytes read) fine.told accepts
+module _ (settings : Settings) (file : FileSeen) (content read : Content) (fine : IsFine file settings content) (accepts : IfSome file.told (λ bytes. Accepts file.syntax bytes read)) where
+  accepted : Accepts file.syntax fine.bytes read
+  accepted = of_told file.told fine.bytes (λ bytes. Accepts file.syntax bytes read) fine.told accepts
 
   read_quads : HaveSameQuads content.dataset read.dataset
-  read_quads = same_quads fine.bytes content read fine.accepts accepted
+  read_quads = same_quads file.syntax fine.bytes content read fine.accepts accepted
 
   not_past : ¬ (IsPast settings read.dataset)
   not_past past =
-      not_both _ settings.limit (subst (λ n. settings.limit < n) (same_units (hashing_of settings) fine.bytes content read fine.accepts accepted) past) fine.within
+      not_both _ settings.limit (subst (λ n. settings.limit < n) (same_units (hashing_of settings) file.syntax fine.bytes content read fine.accepts accepted) past) fine.within
 
-not_refused : (settings : Settings) (file : FileSeen) (content : Content) (cause : Cause) → IsFine file settings content → IfSome file.told (λ bytes. IsCause bytes cause) → ⊥
+not_refused : (settings : Settings) (file : FileSeen) (content : Content) (cause : Cause) → IsFine file settings content → IfSome file.told (λ bytes. IsCause file.syntax bytes cause) → ⊥
 not_refused settings file content cause fine c =
-    no_cause_if_accepted fine.bytes content cause fine.accepts (of_told file.told fine.bytes (λ bytes. IsCause bytes cause) fine.told c)
+    no_cause_if_accepted file.syntax fine.bytes content cause fine.accepts (of_told file.told fine.bytes (λ bytes. IsCause file.syntax bytes cause) fine.told c)
 
 -- ---- two files
 
