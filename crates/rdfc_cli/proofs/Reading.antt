@@ -3,9 +3,9 @@ use Rattle.std.proofs.Common.{◌≡◌, ℕ, ◌+◌, ◌<◌, ◌≤◌, List,
 use Rattle.std.proofs.lemmas.List.{take_all, take-append-le}
 use Rattle.std.proofs.KnownBytes.{Consumes-trans}
 use Rattle.std.specs.Io.KnownBytes.{Consumes, IsAtEnd}
-use Rattle.rdf_terms.specs.Document.{Document}
-use Rattle.rdfc_cli.specs.Answers.{FileSeen, IsCause}
-use Rattle.rdfc_cli.specs.FileFaults.{IsFed, IsFileFault, IsTextFault}
+use Rattle.rdf_terms.specs.Document.{Document, statements}
+use Rattle.rdfc_cli.specs.Answers.{States, Accepts, FileSeen, IsCause}
+use Rattle.rdfc_cli.specs.FileFaults.{IsFed, content_of, IsFileFault, IsTextFault}
 use Rattle.rdfc_cli.specs.Words.{Syntax}
 use Rattle.rdfc_cli.specs.declared.files.TheConstants.{FILE_LIMIT}
 use Rattle.rdfc_cli.specs.declared.files.FileFault.{FileFault}
@@ -80,11 +80,12 @@ fault_as_told file bytes whole (Err Failed) h = absurd h
 fault_as_told file bytes whole (Err (Refused cause)) h = if_told file.told bytes (λ all. IsCause file.syntax all cause) whole h
 fault_as_told file bytes whole (Err NoMemory) h = tt
 
--- a fact of each result's value, under a telling
-pub ok_within : {T E : Type 0} (told : Option (List ℕ)) (P Q : List ℕ → T → Type 0) → ((all : List ℕ) (x : T) → P all x → Q all x) → (r : Result T E) → IfOk r (λ x. IfSome told (λ all. P all x)) → IfOk r (λ x. IfSome told (λ all. Q all x))
-ok_within None P Q f (Ok x) h = tt
-ok_within (Some all) P Q f (Ok x) h = f all x h
-ok_within told P Q f (Err e) h = tt
+-- a dataset of a document that is stated, as far as it is told
+pub accepted_as_told : (told : Option (List ℕ)) (syntax : Syntax) (parsed : Document) (r : Result Document FileFault) → IfSome told (λ bytes. States syntax bytes parsed.labels (statements parsed))
+    → ((bytes : List ℕ) → States syntax bytes parsed.labels (statements parsed) → IfOk r (λ d. Accepts syntax bytes (content_of d))) → IfOk r (λ d. IfSome told (λ bytes. Accepts syntax bytes (content_of d)))
+accepted_as_told told syntax parsed (Err e) stated accepts = tt
+accepted_as_told None syntax parsed (Ok d) stated accepts = tt
+accepted_as_told (Some bytes) syntax parsed (Ok d) stated accepts = accepts bytes stated
 
 -- a whole buffer after a write through a slice of it
 pub whole : (n : ℕ) (a rest : List ℕ) → length a ≡ n → take n (a ++ rest) ≡ a
