@@ -1,8 +1,9 @@
 -- Options as words: how they are spelled tells which they are, and where they end.
 use Rattle.std.proofs.Common.{◌≡◌, ℕ, zero, suc, true, false, true≢false, List, [], ◌∷◌, ◌++◌, Some, None, Option, IfNone, map, codes, inl, inr, get_or, drop, length, if◌then◌else◌, ◌==◌, refl, sym, ap, ◌∙◌, subst, append_assoc, append-nil, arith}
 use Rattle.std.specs.Prelude.{flat_map}
+use Rattle.std.proofs.lemmas.List.{map-append}
 use Rattle.rdf_terms.specs.Lists.{Text, In, AreDistinct}
-use Rattle.rdf_terms.proofs.Membership.{In-append}
+use Rattle.rdf_terms.proofs.Membership.{AreDistinct-push, In-append, In-append_right, In-map}
 use Rattle.rdf_terms.specs.Numeral.{numeral}
 use Rattle.rdf_terms.proofs.Numerals.{numeral-injective}
 use Rattle.canon_model.specs.declared.profile.HashKind.{HashKind}
@@ -171,22 +172,11 @@ chosen_by-push (h ∷ gs) g new = ap (λ c. with_option c h) (chosen_by-push gs 
 
 distinct_before : (given more : List Given) (g : Given) → AreDistinct (map option_name (given ++ g ∷ more)) → ¬ (In (option_name g) (map option_name given))
 distinct_before [] more g d i = i
-distinct_before (h ∷ hs) more g d (inl e) = d.0 (there hs)
-  where
-    there : (xs : List Given) → In (option_name h) (map option_name (xs ++ g ∷ more))
-    there [] = inl (sym e)
-    there (x ∷ xs) = inr (there xs)
+distinct_before (h ∷ hs) more g d (inl e) = d.0 (subst (λ n. In n (map option_name (hs ++ g ∷ more))) e (In-map option_name (hs ++ g ∷ more) g (In-append_right hs (g ∷ more) g (inl refl))))
 distinct_before (h ∷ hs) more g d (inr i) = distinct_before hs more g d.1 i
 
 distinct_push : (given : List Given) (g : Given) → AreDistinct (map option_name given) → ¬ (In (option_name g) (map option_name given)) → AreDistinct (map option_name (given ++ g ∷ []))
-distinct_push [] g d none = (λ i. i, tt)
-distinct_push (h ∷ hs) g d none = (λ i. first hs d.0 (λ j. none (inr j)) i, distinct_push hs g d.1 (λ i. none (inr i)))
-  where
-    first : (xs : List Given) → ¬ (In (option_name h) (map option_name xs)) → ¬ (In (option_name g) (map option_name xs)) → ¬ (In (option_name h) (map option_name (xs ++ g ∷ [])))
-    first [] a b (inl e) = none (inl (sym e))
-    first [] a b (inr i) = i
-    first (x ∷ xs) a b (inl e) = a (inl e)
-    first (x ∷ xs) a b (inr i) = first xs (λ j. a (inr j)) (λ j. b (inr j)) i
+distinct_push given g d none = subst AreDistinct (sym (map-append option_name given (g ∷ []))) (AreDistinct-push (map option_name given) (option_name g) d none)
 
 -- ---- one option after the other
 
@@ -236,13 +226,9 @@ no_options words options (w ∷ ws) name r b none other more not c =
     next [] o e = subst BeginsNoOption (sym e) not name b
     next (g ∷ gs) o e = none g (flat_map spelled_option gs ++ more) (record {
       spelled = e ∙ spelled_first g gs more;
-      good = c.good g (subst (λ l. In g l) (sym o) (there r.given));
+      good = c.good g (subst (λ l. In g l) (sym o) (In-append_right r.given (g ∷ gs) g (inl refl)));
       new = subst (λ p. IsNew p g) (sym r.chosen_is) (new_name r.given g (distinct_before r.given gs g (subst (λ l. AreDistinct (map option_name l)) o c.once)));
     })
-      where
-        there : (xs : List Given) → In g (xs ++ g ∷ gs)
-        there [] = inl refl
-        there (x ∷ xs) = inr (there xs)
 
 -- ---- the words of one option
 
