@@ -12,7 +12,7 @@ use Rattle.trig_builder.specs.Building.{IsWhole as IsBase}
 
 prefix_len-all : (p : ℕ → Bool) (xs : List ℕ) → All (λ c. p c ≡ true) xs → prefix_len p xs ≡ length xs
 prefix_len-all p [] all = refl
-prefix_len-all p (x ∷ xs) all = rw (all 0 x (omega arith)) (ap suc (prefix_len-all p xs (λ k d l. all (suc k) d (omega arith))))
+prefix_len-all p (x ∷ xs) all = rw (all 0 x (omega arith)) (omega (arith, prefix_len-all p xs (λ k d l. all (suc k) d (omega arith))))
 
 pub base-of_len : (text : Text) → HasScheme text → prefix_len may_stand_in_iriref text ≡ length text → IsBase text
 base-of_len text scheme whole = record {

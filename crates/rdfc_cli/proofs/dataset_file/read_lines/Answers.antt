@@ -13,4 +13,4 @@ returns-clause-stated g c =
 pub returns-clause-fault : goal.returns-clause-fault
 returns-clause-fault g c =
     let fed = c.in_ok-reader.ensures.fed in
-    fault_as_told (seen nquads g.S.Shelf.told g.S.Shelf.faults c.args.shelf.now c.feed_file-reader.new.shelf c.args.file.now) fed.bytes fed.whole c.document_of_lines.result (c.document_of_lines.ensures.fault fed.bytes fed.within fed.holds)
+    fault_as_told (seen nquads g.S.Shelf.told g.S.Shelf.faults c.args.shelf.now c.feed_file.new.shelf c.args.file.now) fed.bytes fed.whole c.document_of_lines.result (c.document_of_lines.ensures.fault fed.bytes fed.within fed.holds)

@@ -22,4 +22,4 @@ returns-clause-fault g c =
     let fed = c.in_ok-bytes.ensures.fed in
     let read : length fed.bytes ≤ FILE_LIMIT → IfErr c.document_of_trig.result (IsTextFault syntax fed.bytes) =
         subst (λ b. length b ≤ FILE_LIMIT → IfErr c.document_of_trig.result (IsTextFault syntax b)) (c.deref.ensures.value ∙ fed.holds) c.document_of_trig.ensures.fault in
-    fault_as_told (seen syntax g.S.Shelf.told g.S.Shelf.faults c.args.shelf.now c.feed_file-bytes.new.shelf c.args.file.now) fed.bytes fed.whole c.document_of_trig.result (read fed.within)
+    fault_as_told (seen syntax g.S.Shelf.told g.S.Shelf.faults c.args.shelf.now c.feed_file.new.shelf c.args.file.now) fed.bytes fed.whole c.document_of_trig.result (read fed.within)
