@@ -55,7 +55,7 @@ pub(crate) trait Intake {
 
     fn take(&mut self, piece: &[u8]) -> Result<(), NoMemory>
         requires { (bytes : List ℕ) × holds self.old bytes × (length bytes + length piece.now ≤ 4294967295) }
-        ensures { OnOk result ((bytes : List ℕ) → holds self.old bytes → holds self.new (bytes ++ piece.now)) };
+        ensures { (bytes : List ℕ) → holds self.old bytes → OnOk result (holds self.new (bytes ++ piece.now)) };
 }
 
 impl Intake for LineReader {

@@ -1,4 +1,5 @@
-use Rattle.std.proofs.Common.{List, ℕ, subst, sym, ◌≤◌, length, IfOk, IfErr, ◌∙◌}
+use Rattle.std.proofs.Common.{subst, ◌≤◌, length, IfOk, IfErr, ◌∙◌}
+use Rattle.std.proofs.lemmas.Result.{err_from_is_err_and}
 use Rattle.std.specs.Option.{option_copied}
 use Rattle.rdf_terms.specs.Document.{Document, statements}
 use Rattle.rdfc_cli.specs.Answers.{States, seen}
@@ -23,3 +24,8 @@ returns-clause-fault g c =
     let read : length fed.bytes ≤ FILE_LIMIT → IfErr c.document_of_trig.result (IsTextFault syntax fed.bytes) =
         subst (λ b. length b ≤ FILE_LIMIT → IfErr c.document_of_trig.result (IsTextFault syntax b)) (c.deref.ensures.value ∙ fed.holds) c.document_of_trig.ensures.fault in
     fault_as_told (seen syntax g.S.Shelf.told g.S.Shelf.faults c.args.shelf.now c.feed_file.new.shelf c.args.file.now) fed.bytes fed.whole c.document_of_trig.result (read fed.within)
+
+pub returns-in_err-bytes-clause-fault : goal.returns-in_err-bytes-clause-fault
+returns-in_err-bytes-clause-fault g c =
+    let p = err_from_is_err_and c.from_residual.result c.from_residual.ensures.1 in
+    rw (p.1, p.2) (c.in_err-bytes.ensures.fault (trig (option_copied c.args.base)))
