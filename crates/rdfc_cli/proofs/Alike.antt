@@ -1,24 +1,21 @@
 -- Isomorphic files get their bijection, where one of them has no unjoined tie.
-use Rattle.std.proofs.Common.{◌≡◌, ℕ, ◌<◌, ◌≤◌, List, ◌∷◌, ◌++◌, Option, Some, IfSome, ◌⊎◌, inl, inr, refl, sym, ap, ◌∙◌, subst}
-use Rattle.rdf_terms.specs.Lists.{Text, In, Permutes, permutes_trans}
+use Rattle.std.proofs.Common.{◌≡◌, ℕ, ◌<◌, List, ◌∷◌, Option, IfSome, inl, inr, refl, sym, ap, ◌∙◌, subst}
+use Rattle.rdf_terms.specs.Lists.{Text, In, permutes_trans}
 use Rattle.rdf_terms.specs.Dataset.{Dataset}
-use Rattle.rdf_terms.specs.Isomorphism.{Relabelling, Carries, Symmetry, AreIsomorphic, relabel_statement}
+use Rattle.rdf_terms.specs.Isomorphism.{Relabelling, Carries, AreIsomorphic, relabel_statement}
 use Rattle.rdf_terms.proofs.Membership.{In-append_right}
 use Rattle.rdf_terms.proofs.Permutations.{Permutes-map, Permutes-sym}
-use Rattle.outside.specs.Faults.{Rose}
 use Rattle.canon_model.specs.Hashing.{Hashing}
-use Rattle.canon_model.specs.JoinedTies.{IsSettled, ties_of_run}
+use Rattle.canon_model.specs.JoinedTies.{IsSettled}
 use Rattle.canon_model.specs.QuadOrder.{HaveSameQuads}
-use Rattle.canon_model.specs.Ties.{AreJoined, IsJoined}
+use Rattle.canon_model.specs.Ties.{IsJoined}
 use Rattle.canon_model.proofs.QuadOrder.{counted_run_of_quads}
 use Rattle.canon_core.specs.Canonical.{IsUnsettledBy}
 use Rattle.ndegree_hash.specs.Log.{tie_of}
 use Rattle.ndegree_hash.specs.declared.tie.Tie.{Tie}
-use Rattle.rdfc_cli.specs.Answers.{Content, Accepts, FileSeen, Answers, IsCause, IsWithin, IsPast, hashing_of}
-use Rattle.rdfc_cli.specs.Completeness.{IsFine, AreFineAndAlike, IsPaired, FindsBijections}
-use Rattle.rdfc_cli.specs.Words.Command.{compare}
+use Rattle.rdfc_cli.specs.Answers.{Content, Accepts, FileSeen, IsCause, IsPast, hashing_of}
+use Rattle.rdfc_cli.specs.Completeness.{IsFine, FindsBijections}
 use Rattle.rdfc_cli.specs.declared.options.Settings.{Settings}
-use Rattle.rdfc_cli.specs.declared.status.Status.{Status}
 use Rattle.rdfc_cli.specs.declared.status.Status.TheVariants.{Done, Different, Usage, Unsettled, Refused, ReadFault, WriteFault, WorkLimit, NoMemory, Undecided, SearchLimit}
 use Rattle.rdfc_cli.specs.declared.status.Cause.{Cause}
 use Rattle.rdfc_cli.proofs.Headlines.{same_quads, same_units, of_told, not_both, no_cause_if_accepted}

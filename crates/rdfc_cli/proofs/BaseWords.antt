@@ -1,12 +1,12 @@
 -- The word of a base, by how many bytes at its front may stand in an IRI.
-use Rattle.std.proofs.Common.{◌≡◌, ℕ, suc, Bool, true, false, not, List, [], ◌∷◌, All, length, get_or, refl, sym, ap, ◌∙◌, arith}
+use Rattle.std.proofs.Common.{◌≡◌, ℕ, suc, Bool, true, not, List, [], ◌∷◌, All, length, get_or, refl, sym, ap, ◌∙◌, arith}
 use Rattle.std.specs.List.{prefix_len}
 use Rattle.std.proofs.lemmas.Bool.{not-true}
 use Rattle.std.proofs.lemmas.List.Sums.{prefix_len_passes}
 use Rattle.char_tables.specs.Rows.{is_in}
 use Rattle.char_tables.specs.Classes.{excluded_from_iriref, may_stand_in_iriref}
 use Rattle.rdf_terms.specs.Lists.{Text}
-use Rattle.rdf_terms.specs.Terms.{HasScheme, is_excluded}
+use Rattle.rdf_terms.specs.Terms.{HasScheme}
 use Rattle.terminals.proofs.Facts.{iri_characters}
 use Rattle.trig_builder.specs.Building.{IsWhole as IsBase}
 

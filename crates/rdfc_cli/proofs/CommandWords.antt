@@ -1,5 +1,5 @@
 -- Commands as words: some words spell at most one command, with one list of options.
-use Rattle.std.proofs.Common.{◌≡◌, ℕ, ◌⊎◌, Bool, None, IfSome, true≢false, arith, map, List, [], ◌∷◌, ◌++◌, codes, get_or, inl, inr, if◌then◌else◌, ◌==◌, refl, sym, ap, ◌∙◌, subst, true, false}
+use Rattle.std.proofs.Common.{◌≡◌, ℕ, ◌⊎◌, Bool, None, IfSome, true≢false, arith, List, [], ◌∷◌, ◌++◌, codes, get_or, inl, inr, if◌then◌else◌, ◌==◌, refl, sym, ap, ◌∙◌, subst, true, false}
 use Rattle.std.specs.Prelude.{flat_map}
 use Rattle.rdf_terms.specs.Lists.{Text, In}
 use Rattle.rdf_terms.specs.Numeral.{numeral}
@@ -10,14 +10,14 @@ use Rattle.canon_model.specs.declared.profile.Related.TheVariants.{Each}
 use Rattle.trig_builder.specs.Building.{IsWhole as IsBase}
 use Rattle.rdfc_cli.specs.Words.{Command, Given, Syntax, task_word, command_word, operands, option_name, spelled_option, name_word, given_base, given_trig, HasGoodOperands, HasGoodValue, TakesOption, IsCommand, IsNoCommand, settings_in, syntax_in}
 use Rattle.rdfc_cli.specs.Words.Command.{on_file, compare, lean, load}
-use Rattle.rdfc_cli.specs.Words.Given.{limit, hash, related, as_map, as_trig, base}
+use Rattle.rdfc_cli.specs.Words.Given.{hash, related, as_map, as_trig, base}
 use Rattle.rdfc_cli.specs.Words.Syntax.{nquads, trig}
 use Rattle.rdfc_cli.specs.Options.{Chosen, chosen_by, AreTaken, IsNew, HasFittingBase, BeginsNoOption, BeginsWithOptions, AreOptions, AreNoOptions}
 use Rattle.rdfc_cli.specs.Requests.{command_of, syntax_of, IsRequest, IsSpelled, HasGoodBase}
 use Rattle.rdfc_cli.specs.declared.words.Request.{Request}
 use Rattle.rdfc_cli.specs.declared.options.Settings.{Settings}
 use Rattle.rdfc_cli.specs.declared.options.OptionName.{OptionName}
-use Rattle.rdfc_cli.specs.declared.options.OptionName.TheVariants.{Limit, Hash, Related, Map as MapName}
+use Rattle.rdfc_cli.specs.declared.options.OptionName.TheVariants.{Limit}
 use Rattle.rdfc_cli.specs.declared.words.Task.{Task}
 use Rattle.rdfc_cli.specs.declared.words.Task.TheVariants.{Canon, Hash as HashTask, Map, Ties}
 use Rattle.rdfc_cli.proofs.OptionWords.{head_same, tail_same, not_empty, same_options, name_there, new_name}

@@ -1,19 +1,14 @@
 -- A graph gets its lean form, where no component of an image has more partial maps than the limit.
-use Rattle.std.proofs.Common.{◌≡◌, ℕ, List, Option, Some, None, IfSome, All, inl, inr, sym, ◌∙◌, subst, map}
+use Rattle.std.proofs.Common.{◌≡◌, ℕ, List, Option, Some, None, IfSome, inl, inr, sym, ◌∙◌, subst, map}
 use Rattle.rdf_terms.specs.Lists.{Text, In, Permutes}
 use Rattle.rdf_terms.specs.Terms.{Statement}
-use Rattle.rdf_terms.specs.declared.term.Quad.{Quad}
 use Rattle.rdf_terms.proofs.Membership.{In-map, from_In-map}
 use Rattle.rdf_terms.proofs.Permutations.{Permutes-sym, In-Permutes}
-use Rattle.outside.specs.Faults.{Rose}
 use Rattle.graph_model.specs.Counts.{IsPastSearch}
 use Rattle.graph_model.specs.Graphs.{IsGraph, IsReached, mapped_triple}
-use Rattle.rdfc_cli.specs.Answers.{Content, Accepts, FileSeen, Answers, IsCause}
-use Rattle.rdfc_cli.specs.Completeness.{IsFineGraph, IsLeaned, LeansGraphs}
+use Rattle.rdfc_cli.specs.Answers.{Content, Accepts, IsCause}
+use Rattle.rdfc_cli.specs.Completeness.{LeansGraphs}
 use Rattle.rdfc_cli.specs.Leaning.{HasGraphName, IsPastMaps}
-use Rattle.rdfc_cli.specs.Words.Command.{lean}
-use Rattle.rdfc_cli.specs.declared.options.Settings.{Settings}
-use Rattle.rdfc_cli.specs.declared.status.Status.{Status}
 use Rattle.rdfc_cli.specs.declared.status.Status.TheVariants.{Done, Different, Usage, Unsettled, Refused, ReadFault, WriteFault, WorkLimit, NoMemory, Undecided, SearchLimit}
 use Rattle.rdfc_cli.proofs.Headlines.{same_quads, of_told, no_cause_if_accepted}
 use Rattle.rdf_terms.proofs.MadeLists.{each-from_All}

@@ -1,10 +1,8 @@
 -- What the answer of a run says of `canon`, and of files that are accepted.
-use Rattle.std.proofs.Common.{◌≡◌, ℕ, ◌<◌, ◌≤◌, ◌+◌, List, length, Option, Some, None, IfSome, ◌⊎◌, inl, inr, refl, sym, ap, ◌∙◌, subst, arith}
+use Rattle.std.proofs.Common.{◌≡◌, ℕ, ◌<◌, ◌≤◌, List, length, Option, Some, None, IfSome, ◌⊎◌, inl, inr, refl, sym, ap, ◌∙◌, subst, arith}
 use Rattle.std.specs.Io.KnownBytes.{Appends}
 use Rattle.rdf_terms.specs.Lists.{Text, permutes_trans}
-use Rattle.rdf_terms.specs.Dataset.{Dataset}
 use Rattle.rdf_terms.proofs.Permutations.{Permutes-sym, Permutes-from_equal}
-use Rattle.outside.specs.Faults.{Rose}
 use Rattle.rdf_terms.specs.Terms.{Statement}
 use Rattle.rdf_terms.specs.declared.term.Label.{Label}
 use Rattle.nquads_reader.specs.Document.{IsCauseOf as IsLineCauseOf}
@@ -19,24 +17,21 @@ use Rattle.trig_reader.specs.declared.fault.TrigFault.{TrigFault}
 use Rattle.trig_reader.specs.declared.fault.TrigFault.TheVariants.{NotUtf8 as NotUtf8Token, BadTrig as BadToken, UnknownPrefix as UnknownPrefixToken, NoBase as NoBaseToken, TooManyQuads as TooManyTriGQuads, NoMemory as NoMemoryToken}
 use Rattle.trig_reader.proofs.Causes.{same_document, same_cause, no_cause as no_token_cause}
 use Rattle.canon_model.specs.Hashing.{Hashing}
-use Rattle.canon_model.specs.CountedRun.{counted_run}
 use Rattle.canon_model.specs.QuadOrder.{HaveSameQuads}
 use Rattle.canon_model.specs.Output.{units_of, IsOutputOf}
 use Rattle.canon_model.proofs.QuadOrder.{counted_run_of_quads}
 use Rattle.ndegree_hash.specs.declared.tie.Tie.{Tie}
-use Rattle.rdfc_cli.specs.Answers.{Content, IsDocumentIn, Accepts, FileSeen, Answers, IsReaderCause, IsCause, IsRunText, IsWritten, hashing_of}
+use Rattle.rdfc_cli.specs.Answers.{Content, IsDocumentIn, Accepts, FileSeen, IsReaderCause, IsCause, IsRunText, IsWritten, hashing_of}
 use Rattle.rdfc_cli.specs.Words.{Syntax}
 use Rattle.rdfc_cli.specs.Words.Command.{on_file}
 use Rattle.rdfc_cli.specs.Words.Syntax.{nquads, trig}
 use Rattle.rdfc_cli.specs.declared.files.TheConstants.{FILE_LIMIT}
-use Rattle.rdfc_cli.specs.Headline.{OfEachReading, Writes, IsOneOutput, HasUnsettledTie, IsPastUnits, IsAnswered, Headline, IsWhole, IsPlain, IsComplete, CausesExclude}
+use Rattle.rdfc_cli.specs.Headline.{Writes, IsOneOutput, HasUnsettledTie, IsPastUnits, IsAnswered, Headline, IsComplete, CausesExclude}
 use Rattle.rdfc_cli.specs.declared.options.Settings.{Settings}
-use Rattle.rdfc_cli.specs.declared.words.Task.{Task}
 use Rattle.rdfc_cli.specs.declared.words.Task.TheVariants.{Canon}
-use Rattle.rdfc_cli.specs.declared.status.Status.{Status}
 use Rattle.rdfc_cli.specs.declared.status.Status.TheVariants.{Done, Different, Usage, Unsettled, Refused, ReadFault, WriteFault, WorkLimit, NoMemory, Undecided, SearchLimit}
 use Rattle.rdfc_cli.specs.declared.status.Cause.{Cause}
-use Rattle.rdfc_cli.specs.declared.status.Cause.TheVariants.{TooLong, NotUtf8, BadLine, RelativeIri, BadTrig, UnknownPrefix, NoBase, TooManyQuads, NotOneGraph}
+use Rattle.rdfc_cli.specs.declared.status.Cause.TheVariants.{TooLong, NotUtf8, BadLine, RelativeIri, BadTrig, UnknownPrefix, NoBase, TooManyQuads}
 
 -- ---- what a file is read as
 

@@ -1,5 +1,5 @@
 -- Options as words: how they are spelled tells which they are, and where they end.
-use Rattle.std.proofs.Common.{◌≡◌, ℕ, zero, suc, true, false, true≢false, List, [], ◌∷◌, ◌++◌, Some, None, Option, IfNone, map, codes, inl, inr, get_or, drop, length, if◌then◌else◌, ◌==◌, refl, sym, ap, ◌∙◌, subst, append_assoc, append-nil, arith}
+use Rattle.std.proofs.Common.{◌≡◌, ℕ, suc, true≢false, List, [], ◌∷◌, ◌++◌, Some, None, Option, IfNone, map, inl, inr, get_or, drop, length, if◌then◌else◌, ◌==◌, refl, sym, ap, ◌∙◌, subst, append_assoc, append-nil, arith}
 use Rattle.std.specs.Prelude.{flat_map}
 use Rattle.std.proofs.lemmas.List.{map-append}
 use Rattle.rdf_terms.specs.Lists.{Text, In, AreDistinct}
@@ -12,7 +12,7 @@ use Rattle.canon_model.specs.declared.profile.Related.{Related as Reading}
 use Rattle.canon_model.specs.declared.profile.Related.TheVariants.{Each, Once}
 use Rattle.rdfc_cli.specs.Words.{Given, name_word, option_name, option_value, hash_word, related_word, spelled_option, HasGoodValue}
 use Rattle.rdfc_cli.specs.Words.Given.{limit, hash, related, as_map, as_trig, base}
-use Rattle.rdfc_cli.specs.Options.{Chosen, chosen_by, with_option, IsNew, MayFollow, MayRead, Adds, Reads, BeginsNoOption, BeginsWithName, BeginsWithOptions, AreOptions, AreNoOptions}
+use Rattle.rdfc_cli.specs.Options.{Chosen, chosen_by, with_option, IsNew, MayFollow, MayRead, Adds, Reads, BeginsNoOption, BeginsWithName, BeginsWithOptions, AreNoOptions}
 use Rattle.rdfc_cli.specs.declared.options.OptionName.{OptionName}
 use Rattle.rdfc_cli.specs.declared.options.OptionName.TheVariants.{Limit, Hash, Related, Map, TriG, Base}
 

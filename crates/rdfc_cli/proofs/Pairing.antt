@@ -1,11 +1,10 @@
 -- The text of a comparison, from the pairs of its verdict.
-use Rattle.std.proofs.Common.{◌≡◌, ℕ, zero, suc, ◌+◌, ◌<◌, ◌++◌, List, [], ◌∷◌, codes, map, length, take, get_or, slice_get, inl, inr, None, Option, Some, refl, sym, ap, ◌∙◌, subst, arith}
+use Rattle.std.proofs.Common.{◌≡◌, ℕ, ◌+◌, ◌<◌, ◌++◌, List, [], ◌∷◌, codes, map, length, take, get_or, slice_get, inl, inr, None, Some, refl, sym, ap, ◌∙◌, subst}
 use Rattle.std.proofs.lemmas.List.{flat_map_more, get_or_default, take_more}
 use Rattle.std.proofs.lemmas.Option.{get_or_from_slice_get}
 use Rattle.std.specs.Prelude.{flat_map}
 use Rattle.rdf_terms.specs.Lists.{Text, In, numbers_below}
 use Rattle.rdf_terms.specs.Dataset.{Dataset}
-use Rattle.rdf_terms.specs.Isomorphism.{Relabelling}
 use Rattle.rdf_terms.specs.declared.term.Label.{Label}
 use Rattle.rdf_terms.specs.declared.term.Label.TheVariants.{Anonymous}
 use Rattle.rdf_terms.proofs.Membership.{from_In-map}

@@ -10,7 +10,6 @@ use Rattle.rdfc_cli.specs.Words.{Syntax}
 use Rattle.rdfc_cli.specs.declared.files.TheConstants.{FILE_LIMIT}
 use Rattle.rdfc_cli.specs.declared.files.FileFault.{FileFault}
 use Rattle.rdfc_cli.specs.declared.files.FileFault.TheVariants.{Failed, Refused, NoMemory}
-use Rattle.rdfc_cli.specs.declared.status.Cause.{Cause}
 
 -- a started file, of which nothing was read
 pub began : (told rest : Option (List ℕ)) (bytes : List ℕ) → rest ≡ told → bytes ≡ [] → Consumes told rest bytes

@@ -1,5 +1,5 @@
 -- What the answer of a run says of `canon` on a file that is told: the headline, sentence by sentence, and what follows where nothing failed.
-use Rattle.std.specs.Prelude.{◌≡◌, ℕ, ◌<◌, ◌≤◌, List, Option, Some, take}
+use Rattle.std.specs.Prelude.{◌≡◌, ℕ, ◌<◌, ◌≤◌, Option, Some, take}
 use Rattle.std.specs.Io.KnownBytes.{Appends}
 use Rattle.rdf_terms.specs.Lists.{Text}
 use Rattle.rdf_terms.specs.Dataset.{Dataset, IsValid}

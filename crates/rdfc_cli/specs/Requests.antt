@@ -1,5 +1,5 @@
 -- What the words of a command line were read as.
-use Rattle.std.specs.Prelude.{◌≡◌, List, Some, IfSome, option_copied}
+use Rattle.std.specs.Prelude.{◌≡◌, List, IfSome, option_copied}
 use Rattle.rdf_terms.specs.Lists.{Text}
 use Rattle.trig_builder.specs.Building.{IsWhole as IsBase}
 use Rattle.rdfc_cli.specs.Words.{Command, Given, Syntax, IsCommand, settings_in, syntax_in, command_word, operands, HasGoodOperands}

@@ -114,7 +114,14 @@ fn output_of<S: Shelf>(
             first,
             second,
         ),
-        Command::Lean { file } => output_of_graph(alloc, keys, request.settings, shelf, request.syntax, file),
+        Command::Lean { file } => output_of_graph(
+            alloc,
+            keys,
+            request.settings,
+            shelf,
+            request.syntax,
+            file,
+        ),
         Command::Load { number } => output_of_number(alloc, keys, request.settings, number),
     }
 }

@@ -75,7 +75,15 @@ fn each_command_reads_trig(rt: HostRuntime) -> Result<(), Fail> {
             "<http://e/d/x> <http://e/d/y> <http://e/d/z> .\n",
         ),
         (
-            &["canon", "--base", "http://e/d/f", "--limit", "1", "--trig", "f"],
+            &[
+                "canon",
+                "--base",
+                "http://e/d/f",
+                "--limit",
+                "1",
+                "--trig",
+                "f",
+            ],
             "BASE <g/> <> <?y> <#z> .",
             "<http://e/d/g/> <http://e/d/g/?y> <http://e/d/g/#z> .\n",
         ),

@@ -15,12 +15,21 @@ fn graphs_and_triples_are_read(rt: HostRuntime) -> Result<(), Fail> {
         ("# nothing\n@prefix e: <e:> .\n", ""),
         ("<e:s> <e:p> <e:o> .", "<e:s> <e:p> <e:o> .\n"),
         ("{ <e:s> <e:p> <e:o> }", "<e:s> <e:p> <e:o> .\n"),
-        ("GRAPH <e:g> { <e:s> <e:p> <e:o> }", "<e:s> <e:p> <e:o> <e:g> .\n"),
-        ("graph <e:g> { <e:s> <e:p> <e:o> } GraPH _:g { }", "<e:s> <e:p> <e:o> <e:g> .\n"),
+        (
+            "GRAPH <e:g> { <e:s> <e:p> <e:o> }",
+            "<e:s> <e:p> <e:o> <e:g> .\n",
+        ),
+        (
+            "graph <e:g> { <e:s> <e:p> <e:o> } GraPH _:g { }",
+            "<e:s> <e:p> <e:o> <e:g> .\n",
+        ),
         ("<e:g> { <e:s> <e:p> <e:o> }", "<e:s> <e:p> <e:o> <e:g> .\n"),
         ("_:g { <e:s> <e:p> <e:o> }", "<e:s> <e:p> <e:o> _:c14n0 .\n"),
         ("[ ] { <e:s> <e:p> <e:o> }", "<e:s> <e:p> <e:o> _:c14n0 .\n"),
-        ("GRAPH [] { <e:s> <e:p> <e:o> }", "<e:s> <e:p> <e:o> _:c14n0 .\n"),
+        (
+            "GRAPH [] { <e:s> <e:p> <e:o> }",
+            "<e:s> <e:p> <e:o> _:c14n0 .\n",
+        ),
         ("<e:g> { } _:g { } { }", ""),
         (
             "<e:g> { <e:s> <e:p> <e:o> } <e:s> <e:p> <e:o> .",
@@ -57,21 +66,39 @@ fn triples_and_collections_are_read(rt: HostRuntime) -> Result<(), Fail> {
             "<e:s> <e:p> <e:o> , <e:r> ; <e:q> <e:o> .",
             "<e:s> <e:p> <e:o> .\n<e:s> <e:p> <e:r> .\n<e:s> <e:q> <e:o> .\n",
         ),
-        ("<e:s> <e:p> <e:o> ; ; <e:q> <e:o> ; .", "<e:s> <e:p> <e:o> .\n<e:s> <e:q> <e:o> .\n"),
-        ("<e:s> a <e:C> .", "<e:s> <http://www.w3.org/1999/02/22-rdf-syntax-ns#type> <e:C> .\n"),
+        (
+            "<e:s> <e:p> <e:o> ; ; <e:q> <e:o> ; .",
+            "<e:s> <e:p> <e:o> .\n<e:s> <e:q> <e:o> .\n",
+        ),
+        (
+            "<e:s> a <e:C> .",
+            "<e:s> <http://www.w3.org/1999/02/22-rdf-syntax-ns#type> <e:C> .\n",
+        ),
         ("{ <e:s> <e:p> <e:o> ; }", "<e:s> <e:p> <e:o> .\n"),
         ("_:a <e:p> _:a .", "_:c14n0 <e:p> _:c14n0 .\n"),
         ("[] <e:p> <e:o> .", "_:c14n0 <e:p> <e:o> .\n"),
         ("[ <e:p> <e:o> ] .", "_:c14n0 <e:p> <e:o> .\n"),
-        ("[ <e:p> <e:o> ] <e:q> <e:r> .", "_:c14n0 <e:p> <e:o> .\n_:c14n0 <e:q> <e:r> .\n"),
+        (
+            "[ <e:p> <e:o> ] <e:q> <e:r> .",
+            "_:c14n0 <e:p> <e:o> .\n_:c14n0 <e:q> <e:r> .\n",
+        ),
         ("{ [ <e:p> <e:o> ] }", "_:c14n0 <e:p> <e:o> .\n"),
         (
             "<e:s> <e:p> [ <e:q> <e:r> , <e:o> ; ] .",
             "<e:s> <e:p> _:c14n0 .\n_:c14n0 <e:q> <e:o> .\n_:c14n0 <e:q> <e:r> .\n",
         ),
-        ("<e:s> <e:p> [ # a comment ]\n] .", "<e:s> <e:p> _:c14n0 .\n"),
-        ("<e:s> <e:p> ( ) .", "<e:s> <e:p> <http://www.w3.org/1999/02/22-rdf-syntax-ns#nil> .\n"),
-        ("( ) <e:p> <e:o> .", "<http://www.w3.org/1999/02/22-rdf-syntax-ns#nil> <e:p> <e:o> .\n"),
+        (
+            "<e:s> <e:p> [ # a comment ]\n] .",
+            "<e:s> <e:p> _:c14n0 .\n",
+        ),
+        (
+            "<e:s> <e:p> ( ) .",
+            "<e:s> <e:p> <http://www.w3.org/1999/02/22-rdf-syntax-ns#nil> .\n",
+        ),
+        (
+            "( ) <e:p> <e:o> .",
+            "<http://www.w3.org/1999/02/22-rdf-syntax-ns#nil> <e:p> <e:o> .\n",
+        ),
         (
             "<e:s> <e:p> ( <e:a> <e:b> ) .",
             "<e:s> <e:p> _:c14n0 .\n_:c14n0 <http://www.w3.org/1999/02/22-rdf-syntax-ns#first> <e:a> .\n_:c14n0 <http://www.w3.org/1999/02/22-rdf-syntax-ns#rest> _:c14n1 .\n_:c14n1 <http://www.w3.org/1999/02/22-rdf-syntax-ns#first> <e:b> .\n_:c14n1 <http://www.w3.org/1999/02/22-rdf-syntax-ns#rest> <http://www.w3.org/1999/02/22-rdf-syntax-ns#nil> .\n",
@@ -157,7 +184,10 @@ fn literals_are_read(rt: HostRuntime) -> Result<(), Fail> {
             "<e:s> <e:p> 1e5 , 1.E-3 , -.5e+0 .",
             "<e:s> <e:p> \"-.5e+0\"^^<http://www.w3.org/2001/XMLSchema#double> .\n<e:s> <e:p> \"1.E-3\"^^<http://www.w3.org/2001/XMLSchema#double> .\n<e:s> <e:p> \"1e5\"^^<http://www.w3.org/2001/XMLSchema#double> .\n",
         ),
-        ("<e:s> <e:p> 1.", "<e:s> <e:p> \"1\"^^<http://www.w3.org/2001/XMLSchema#integer> .\n"),
+        (
+            "<e:s> <e:p> 1.",
+            "<e:s> <e:p> \"1\"^^<http://www.w3.org/2001/XMLSchema#integer> .\n",
+        ),
         (
             "<e:s> <e:p> true , false .",
             "<e:s> <e:p> \"false\"^^<http://www.w3.org/2001/XMLSchema#boolean> .\n<e:s> <e:p> \"true\"^^<http://www.w3.org/2001/XMLSchema#boolean> .\n",
@@ -166,15 +196,30 @@ fn literals_are_read(rt: HostRuntime) -> Result<(), Fail> {
             "<e:s> <e:p> 'x' , '\"' , '' .",
             "<e:s> <e:p> \"\" .\n<e:s> <e:p> \"\\\"\" .\n<e:s> <e:p> \"x\" .\n",
         ),
-        ("<e:s> <e:p> \"\"\"a\nb\"\"c\"\"\" .", "<e:s> <e:p> \"a\\nb\\\"\\\"c\" .\n"),
-        ("<e:s> <e:p> '''a\r\nb'c\"''' .", "<e:s> <e:p> \"a\\r\\nb'c\\\"\" .\n"),
-        ("<e:s> <e:p> \"\"\"\"\"\" , ''''x''' .", "<e:s> <e:p> \"\" .\n<e:s> <e:p> \"'x\" .\n"),
+        (
+            "<e:s> <e:p> \"\"\"a\nb\"\"c\"\"\" .",
+            "<e:s> <e:p> \"a\\nb\\\"\\\"c\" .\n",
+        ),
+        (
+            "<e:s> <e:p> '''a\r\nb'c\"''' .",
+            "<e:s> <e:p> \"a\\r\\nb'c\\\"\" .\n",
+        ),
+        (
+            "<e:s> <e:p> \"\"\"\"\"\" , ''''x''' .",
+            "<e:s> <e:p> \"\" .\n<e:s> <e:p> \"'x\" .\n",
+        ),
         (
             "<e:s> <e:p> \"\\t\\b\\n\\r\\f\\\"\\'\\\\\" .",
             "<e:s> <e:p> \"\\t\\b\\n\\r\\f\\\"'\\\\\" .\n",
         ),
-        ("<e:s> <e:p> \"\\u00E9\\U0001F600\" .", "<e:s> <e:p> \"é😀\" .\n"),
-        ("<e:\\u0073> <e:\\U00000070> <e:é> .", "<e:s> <e:p> <e:é> .\n"),
+        (
+            "<e:s> <e:p> \"\\u00E9\\U0001F600\" .",
+            "<e:s> <e:p> \"é😀\" .\n",
+        ),
+        (
+            "<e:\\u0073> <e:\\U00000070> <e:é> .",
+            "<e:s> <e:p> <e:é> .\n",
+        ),
     ];
     for (text, form) in cases {
         expect_form(&rt, rt.alloc(), keys, text, form)?;
@@ -186,9 +231,18 @@ fn literals_are_read(rt: HostRuntime) -> Result<(), Fail> {
 fn names_and_labels_are_read(rt: HostRuntime) -> Result<(), Fail> {
     let keys = RandomState::new(&rt)?;
     let cases = [
-        ("PREFIX é.b: <e:> é.b:s é.b:p é.b:o .", "<e:s> <e:p> <e:o> .\n"),
-        ("PREFIX e: <e:> e:s.t e:p:q e:0 .", "<e:s.t> <e:p:q> <e:0> .\n"),
-        ("PREFIX e: <e:> e:%41 e:\\%\\~ e:a\\-b .", "<e:%41> <e:%~> <e:a-b> .\n"),
+        (
+            "PREFIX é.b: <e:> é.b:s é.b:p é.b:o .",
+            "<e:s> <e:p> <e:o> .\n",
+        ),
+        (
+            "PREFIX e: <e:> e:s.t e:p:q e:0 .",
+            "<e:s.t> <e:p:q> <e:0> .\n",
+        ),
+        (
+            "PREFIX e: <e:> e:%41 e:\\%\\~ e:a\\-b .",
+            "<e:%41> <e:%~> <e:a-b> .\n",
+        ),
         (
             "PREFIX e: <e:> e:s e:p e:o.\ne:s e:p e:r.",
             "<e:s> <e:p> <e:o> .\n<e:s> <e:p> <e:r> .\n",

@@ -91,9 +91,15 @@ fn what_is_no_literal_is_refused(rt: HostRuntime) -> Result<(), Fail> {
         ("<e:s> <e:p> 1e .", "rdfc: f:1: not TriG\n"),
         ("<e:s> <e:p> TRUE .", "rdfc: f:1: not TriG\n"),
         ("<e:s> <e:p> true@en .", "rdfc: f:1: not TriG\n"),
-        ("<e:s> <e:p>\n\"\"\"a\nb\"\"\"\n\"\"\"c\n\nd\"\"\" .", "rdfc: f:4: not TriG\n"),
+        (
+            "<e:s> <e:p>\n\"\"\"a\nb\"\"\"\n\"\"\"c\n\nd\"\"\" .",
+            "rdfc: f:4: not TriG\n",
+        ),
         ("<e:s> <e:p>\r\n\"\"\"a\r\r\nb\n", "rdfc: f:2: not TriG\n"),
-        ("<e:s> <e:p> \"\"\"a\rb\r\nc\nd\"\"\"\n<e:x> .", "rdfc: f:5: not TriG\n"),
+        (
+            "<e:s> <e:p> \"\"\"a\rb\r\nc\nd\"\"\"\n<e:x> .",
+            "rdfc: f:5: not TriG\n",
+        ),
     ];
     for (text, note) in cases {
         expect_refusal(&rt, rt.alloc(), keys, text, note)?;
@@ -107,7 +113,10 @@ fn what_is_no_name_is_refused(rt: HostRuntime) -> Result<(), Fail> {
     let cases = [
         ("<e:s> <e:p> <e: o> .", "rdfc: f:1: not TriG\n"),
         ("<e:s> <e:p> <e:\\u0020> .", "rdfc: f:1: not TriG\n"),
-        ("PREFIX e: <e:> e:s e:p e:o.e:s e:p e:r.", "rdfc: f:1: not TriG\n"),
+        (
+            "PREFIX e: <e:> e:s e:p e:o.e:s e:p e:r.",
+            "rdfc: f:1: not TriG\n",
+        ),
         ("PREFIX -e: <e:>", "rdfc: f:1: not TriG\n"),
         ("PREFIX e: <e:> e:s e:p e:%4 .", "rdfc: f:1: not TriG\n"),
         ("PREFIX e: <e:> e:s e:p e:\\x .", "rdfc: f:1: not TriG\n"),
@@ -125,15 +134,33 @@ fn what_is_no_name_is_refused(rt: HostRuntime) -> Result<(), Fail> {
 fn a_use_without_a_definition_is_refused(rt: HostRuntime) -> Result<(), Fail> {
     let keys = RandomState::new(&rt)?;
     let cases = [
-        ("PREFIX e: <e:>\ne:s e:p\nq:x .", "rdfc: f:3: unknown prefix\n"),
-        ("e:s e:p e:o .\nPREFIX e: <e:>", "rdfc: f:1: unknown prefix\n"),
-        ("PREFIX e: <e:> e:s e:p \"x\"^^\n:t .", "rdfc: f:2: unknown prefix\n"),
+        (
+            "PREFIX e: <e:>\ne:s e:p\nq:x .",
+            "rdfc: f:3: unknown prefix\n",
+        ),
+        (
+            "e:s e:p e:o .\nPREFIX e: <e:>",
+            "rdfc: f:1: unknown prefix\n",
+        ),
+        (
+            "PREFIX e: <e:> e:s e:p \"x\"^^\n:t .",
+            "rdfc: f:2: unknown prefix\n",
+        ),
         ("<x> <y> <z> .", "rdfc: f:1: relative IRI without a base\n"),
         ("PREFIX e: <x>", "rdfc: f:1: relative IRI without a base\n"),
-        ("BASE <x>\nBASE <e:>", "rdfc: f:1: relative IRI without a base\n"),
-        ("<e:s> <e:p>\n<> .", "rdfc: f:2: relative IRI without a base\n"),
+        (
+            "BASE <x>\nBASE <e:>",
+            "rdfc: f:1: relative IRI without a base\n",
+        ),
+        (
+            "<e:s> <e:p>\n<> .",
+            "rdfc: f:2: relative IRI without a base\n",
+        ),
         ("<e:s> q:p <o> .", "rdfc: f:1: unknown prefix\n"),
-        ("<s> q:p <e:o> .", "rdfc: f:1: relative IRI without a base\n"),
+        (
+            "<s> q:p <e:o> .",
+            "rdfc: f:1: relative IRI without a base\n",
+        ),
         ("q:s <e:p> <e:o>\n", "rdfc: f:2: not TriG\n"),
     ];
     for (text, note) in cases {

@@ -1,4 +1,3 @@
-use Rattle.std.proofs.Common.{map, string_bytes}
 use Rattle.rdfc_cli.specs.Answers.{seen, Answers}
 use Rattle.rdfc_cli.specs.Notes.{IsNoted}
 use Rattle.rdfc_cli.specs.Words.{file_word}

@@ -1,7 +1,3 @@
-use Rattle.std.proofs.Common.{refl}
-use Rattle.rdf_terms.specs.Document.{statements}
-use Rattle.rdfc_cli.specs.Answers.{States, Accepts}
-use Rattle.rdfc_cli.specs.FileFaults.{content_of}
 use Rattle.rdfc_cli.specs.Requests.{syntax_of}
 use Rattle.rdfc_cli.proofs.Reading.{accepted_as_told}
 use Rattle.rdfc_cli.proofs.dataset_file.read_dataset.Goals as goal

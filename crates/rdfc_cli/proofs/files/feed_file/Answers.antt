@@ -1,4 +1,4 @@
-use Rattle.std.proofs.Common.{◌≡◌, ℕ, ◌+◌, ◌≤◌, ◌++◌, length, take, refl, arith, ap, subst, ◌∙◌, length-take}
+use Rattle.std.proofs.Common.{◌≡◌, ℕ, ◌+◌, ◌≤◌, ◌++◌, length, take, refl, arith, subst, ◌∙◌, length-take}
 use Rattle.rdfc_cli.proofs.Reading.{fed_nothing, fed_more, fed_whole, longer, whole}
 use Rattle.rdfc_cli.proofs.files.feed_file.Goals as goal
 
