@@ -1,6 +1,5 @@
 -- A document that is read has no fault, and bytes that are not read have one cause.
-use Rattle.std.proofs.Common.{◌≡◌, ◌≢◌, ℕ, ◌<◌, ◌≤◌, ◌⊎◌, inl, inr, List, [], ◌∷◌, ◌++◌, Option, Some, None, length, refl, sym, ap, subst, ◌∙◌, arith, append-nil, append_assoc}
-use Rattle.std.specs.Prelude.{IsUtf8}
+use Rattle.std.proofs.Common.{◌≡◌, ◌≢◌, ℕ, ◌≤◌, inl, inr, List, [], ◌∷◌, ◌++◌, Option, Some, None, length, refl, sym, ap, subst, ◌∙◌, arith, append-nil, append_assoc}
 use Rattle.std.specs.Str.{IsValidUpTo}
 use Rattle.std.proofs.lemmas.Bool.{cases_lt}
 use Rattle.rdf_terms.specs.Lists.{Text}
@@ -8,7 +7,6 @@ use Rattle.rdf_terms.specs.Terms.{Statement}
 use Rattle.rdf_terms.specs.declared.term.Label.{Label}
 use Rattle.trig_lexer.specs.declared.kind.Kind.TheVariants.{End}
 use Rattle.trig_lexer.specs.declared.token.Token.{Token}
-use Rattle.trig_terms.specs.declared.leaf.Leaf.{Leaf}
 use Rattle.trig_terms.specs.Meaning.{Undefined, says}
 use Rattle.trig_terms.specs.Meaning.Undefined.{NoPrefix, NoBase as HasNoBase}
 use Rattle.trig_builder.specs.declared.TheConstants.{MAX_QUADS}

@@ -1,5 +1,5 @@
 -- What is known of a text whose draft was made.
-use Rattle.std.proofs.Common.{◌≡◌, ◌<◌, ◌≤◌, Option, length, refl}
+use Rattle.std.proofs.Common.{◌<◌, ◌≤◌, Option, length}
 use Rattle.std.specs.Prelude.{IsUtf8}
 use Rattle.rdf_terms.specs.Lists.{Text}
 use Rattle.rdf_terms.specs.Document.{Document, statements, Finishes}

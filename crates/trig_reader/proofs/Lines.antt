@@ -31,8 +31,7 @@ counted_behind false false followed n ends one plain behind = ap suc plain
 both : (text : Text) → (ends_from false text ≡ line_ends text) × (suc (ends_from true text) ≡ (if begins_with_lf text then line_ends text else suc (line_ends text)))
 both [] = (refl, refl)
 both (c ∷ cs) =
-    let more = both cs in
-    (
+    let more = both cs in (
       counted_plain (c == 13) (c == 10) (begins_with_lf cs) (line_ends cs) (λ after. ends_from after cs) (not_both c) more.0 more.1,
       counted_behind (c == 13) (c == 10) (begins_with_lf cs) (line_ends cs) (λ after. ends_from after cs) (not_both c) more.0 more.1,
     )

@@ -1,12 +1,11 @@
 -- What the leaves of a document say, one leaf after the other, and its first use without a definition.
-use Rattle.std.proofs.Common.{◌≡◌, List, [], ◌∷◌, ◌++◌, Option, Some, None, refl, sym, ap, subst, ◌∙◌, ◌⊎◌, inl, inr, append_assoc, append-nil}
+use Rattle.std.proofs.Common.{◌≡◌, List, [], ◌∷◌, ◌++◌, Option, Some, None, refl, sym, ap, subst, ◌∙◌, append_assoc, append-nil}
 use Rattle.rdf_terms.specs.Lists.{Text}
 use Rattle.trig_lexer.specs.declared.token.Token.{Token}
 use Rattle.trig_terms.specs.declared.leaf.Leaf.{Leaf}
 use Rattle.trig_terms.specs.Meaning.{State, Undefined, begin, meet_defined, step, run, says}
 use Rattle.trig_terms.specs.Leaves.{IsLeaf}
 use Rattle.trig_reader.specs.Document.{AreLeaves, IsFirstUndefined}
-use Rattle.trig_reader.specs.Reading.{IsUseAt}
 use Rattle.trig_reader.proofs.OneLeaf.{one_leaf, same_leaves, parted_leaves}
 
 -- ---- one leaf after the other

@@ -1,5 +1,5 @@
 -- What a document says is numbered in one way, and can be numbered whole.
-use Rattle.std.proofs.Common.{◌≡◌, ℕ, ◌<◌, ◌≤◌, Bool, true, false, ◌&&◌, List, [], ◌∷◌, ◌++◌, Option, Some, None, length, map, refl, sym, ap, subst, ◌∙◌, arith, ◌⊎◌, inl, inr, append-nil, true≢false, if◌then◌else◌}
+use Rattle.std.proofs.Common.{◌≡◌, ◌<◌, ◌≤◌, Bool, true, false, ◌&&◌, List, [], ◌∷◌, ◌++◌, Option, Some, None, length, map, refl, sym, ap, subst, ◌∙◌, arith, ◌⊎◌, inl, inr, append-nil, true≢false, if◌then◌else◌}
 use Rattle.std.specs.List.{AllZip, list_any}
 use Rattle.std.proofs.lemmas.List.{length-map, length-append}
 use Rattle.std.proofs.lemmas.Bool.{and_from, and_parts}
@@ -17,7 +17,7 @@ use Rattle.rdf_terms.proofs.SameTerm.{terms_tell}
 use Rattle.trig_terms.specs.Meaning.{Said, StatedQuad, Told}
 use Rattle.trig_terms.specs.Meaning.Said.{Iri, Node, Literal}
 use Rattle.trig_builder.specs.Numbered.{IsTermOf, IsGraphNameOf, IsStatementOf}
-use Rattle.trig_builder.specs.Telling.{IsDrafted, Drafts}
+use Rattle.trig_builder.specs.Telling.{Drafts}
 use Rattle.trig_builder.specs.declared.TheConstants.{MAX_QUADS}
 use Rattle.trig_reader.specs.Document.{AreNumbered, AreStated}
 

@@ -1,5 +1,5 @@
 -- What taking one token does, and what is known once the last one was taken.
-use Rattle.std.proofs.Common.{◌≡◌, ◌≢◌, ℕ, ◌+◌, ◌-◌, ◌≤◌, Bool, true, false, List, [], ◌∷◌, ◌++◌, Option, Some, None, All, length, take, drop, refl, sym, ap, subst, ◌∙◌, arith, inl, inr, append_assoc}
+use Rattle.std.proofs.Common.{◌≡◌, ◌≢◌, ℕ, ◌-◌, Bool, false, List, [], ◌∷◌, ◌++◌, Option, Some, None, length, take, drop, refl, sym, ap, subst, ◌∙◌, arith, inl, inr}
 use Rattle.std.specs.Prelude.{IsUtf8, encode_utf8_all}
 use Rattle.std.specs.Str.{IsCharBoundary}
 use Rattle.std.proofs.lemmas.List.{length-append, length-drop, take_at}
@@ -10,7 +10,6 @@ use Rattle.terminals.specs.Terminal.{Characters}
 use Rattle.trig_lexer.specs.declared.kind.Kind.{Kind}
 use Rattle.trig_lexer.specs.declared.kind.Kind.TheVariants.{End}
 use Rattle.trig_lexer.specs.declared.token.Token.{Token}
-use Rattle.trig_lexer.specs.Fronts.{TextReads}
 use Rattle.trig_lexer.specs.Tokens.{IsToken, IsNext, IsTokenAt, IsTokenStart, HasNoTokenAt}
 use Rattle.trig_grammar.specs.Grammar.{BeginsSentence}
 use Rattle.trig_grammar.specs.Stack.{IsBehind}
@@ -20,12 +19,13 @@ use Rattle.trig_terms.specs.Meaning.{State, Undefined, begin, step, says}
 use Rattle.trig_terms.specs.Meaning.Undefined.{NoPrefix, NoBase as HasNoBase}
 use Rattle.trig_builder.specs.Building.{IsReady, Builds, undefined_of}
 use Rattle.trig_builder.specs.Telling.{Drafts}
+use Rattle.trig_builder.specs.declared.builder.Builder.{Builder}
 use Rattle.trig_builder.specs.declared.builder.Missing.{Missing}
 use Rattle.trig_builder.specs.declared.builder.Missing.TheVariants.{Prefix, Base}
 use Rattle.trig_reader.specs.Lines.{line_at}
-use Rattle.trig_reader.specs.Tokens.{BeginsWith, IsNextBehind, HasNoneBehind, HaveNoEnd, AreTokens, kinds, place_behind, AreSentence, BeginDocument}
-use Rattle.trig_reader.specs.Document.{AreLeaves, IsFirstUndefined, IsUndefined, IsBad, IsCauseOf}
-use Rattle.trig_reader.specs.Reading.{IsCut, IsUseAt, HasTold, HasTaken, IsDraftOf, fault_at, place_told}
+use Rattle.trig_reader.specs.Tokens.{IsNextBehind, HasNoneBehind, HaveNoEnd, AreTokens, kinds, place_behind, is_behind_string}
+use Rattle.trig_reader.specs.Document.{AreLeaves, IsUndefined, IsCauseOf}
+use Rattle.trig_reader.specs.Reading.{IsCut, IsUseAt, HasTold, HasTaken, HasTakenAll, IsDraftOf, fault_at, place_told}
 use Rattle.trig_reader.specs.declared.reading.Reading.{Reading}
 use Rattle.trig_reader.specs.declared.fault.TrigFault.TheVariants.{BadTrig}
 use Rattle.trig_reader.proofs.OneLeaf.{push_leaf}
@@ -83,31 +83,45 @@ module _ (text : Text) (base : Option Text) (tokens : List Token) (token : Token
   first_use (Some Prefix) place is old why now = first_before why NoPrefix place old (sym is) now
   first_use (Some Base) place is old why now = first_before why HasNoBase place old (sym is) now
 
-pub told_more : (text : Text) (base : Option Text) (tokens : List Token) (token : Token) (leaf : Leaf) (missing : Option Missing) (old new : Reading) → IsLeaf text token leaf → IsReady new.builder
-    → ((s : State) → Builds old.builder s → Builds new.builder (step s leaf)) → ((s : State) → Builds old.builder s → undefined_of missing ≡ s.undefined)
-    → new.last_told ≡ place_told missing old.last_told token.start → HasTold text base tokens old → HasTold text base (tokens ++ token ∷ []) new
-told_more text base tokens token leaf missing old new here ready builds is place told = record {
+pub told_more : (text : Text) (base : Option Text) (tokens : List Token) (token : Token) (leaf : Leaf) (missing : Option Missing) (old new : Builder) (last now : ℕ) → IsLeaf text token leaf
+    → ((s : State) → Builds old s → Builds new (step s leaf)) → ((s : State) → Builds old s → undefined_of missing ≡ s.undefined) → now ≡ place_told missing last token.start
+    → HasTold text base tokens old last → HasTold text base (tokens ++ token ∷ []) new now
+told_more text base tokens token leaf missing old new last now here builds is place told = record {
   leaves = told.leaves ++ leaf ∷ [];
   are_leaves = push_leaf text tokens told.leaves token leaf told.are_leaves here;
+  builds = subst (Builds new) (sym (says-push base told.leaves leaf)) (builds (says base told.leaves) told.builds);
+  use_at = λ why some. subst (IsUseAt text base (tokens ++ token ∷ []) why) (sym place)
+      (first_use text base tokens token leaf here told.leaves told.are_leaves missing last (is (says base told.leaves) told.builds) told.use_at why some);
+}
+
+-- ---- no token was taken
+
+no_use : (base : Option Text) (why : Undefined) → (begin base).undefined ≡ Some why → ⊥
+no_use base why some = let none : None ≡ Some why = some in cc
+
+pub nothing_taken : (text : Text) (reading : Reading) → IsBehind [] reading.parser → IsReady reading.builder → HasTaken text reading [] reading
+nothing_taken text reading behind ready = record {
+  begins = tt;
+  behind = behind;
   ready = ready;
-  builds = subst (Builds new.builder) (sym (says-push base told.leaves leaf)) (builds (says base told.leaves) told.builds);
-  use_at = λ why now. subst (IsUseAt text base (tokens ++ token ∷ []) why) (sym place)
-      (first_use text base tokens token leaf here told.leaves told.are_leaves missing old.last_told (is (says base told.leaves) told.builds) told.use_at why now);
+  told = λ base builds. record { leaves = []; are_leaves = tt; builds = builds; use_at = λ why some. absurd (no_use base why some) };
 }
 
 -- ---- the token is taken, or none goes on with it
 
-pub taken_more : (text : Text) (base : Option Text) (tokens : List Token) (token : Token) (old new : Reading) → HasTaken text base tokens old → IsNextBehind text tokens token
-    → ((front : List Kind) → IsBehind front old.parser → IsBehind (front ++ token.kind ∷ []) new.parser) → HasTold text base (tokens ++ token ∷ []) new → HasTaken text base (tokens ++ token ∷ []) new
-taken_more text base tokens token old new taken next goes_on told = record {
+pub taken_more : (text : Text) (first : Reading) (tokens : List Token) (token : Token) (old new : Reading) → HasTaken text first tokens old → IsNextBehind text tokens token
+    → ((front : List Kind) → IsBehind front old.parser → IsBehind (front ++ token.kind ∷ []) new.parser) → IsReady new.builder
+    → ((base : Option Text) → HasTold text base tokens old.builder old.last_told → HasTold text base (tokens ++ token ∷ []) new.builder new.last_told) → HasTaken text first (tokens ++ token ∷ []) new
+taken_more text first tokens token old new taken next goes_on ready told = record {
   begins = push_token text 0 false tokens token taken.begins next;
   behind = subst (λ ks. IsBehind ks new.parser) (sym (kinds-append tokens (token ∷ []))) (goes_on (kinds tokens) taken.behind);
-  told = told;
+  ready = ready;
+  told = λ base builds. told base (taken.told base builds);
 }
 
-pub bad_token : (text : Text) (base : Option Text) (tokens : List Token) (token : Token) (old : Reading) (line : ℕ) → IsUtf8 text → HasTaken text base tokens old → HaveNoEnd tokens → IsNextBehind text tokens token
-    → ((front : List Kind) → IsBehind front old.parser → ¬ (BeginsSentence (front ++ token.kind ∷ []))) → line ≡ line_at text token.start → IsCauseOf text base (BadTrig line)
-bad_token text base tokens token old line utf8 taken no_end next none line_is = record {
+pub bad_token : (text : Text) (base : Option Text) (first : Reading) (tokens : List Token) (token : Token) (old : Reading) (line : ℕ) → IsUtf8 text → HasTaken text first tokens old → HaveNoEnd tokens
+    → IsNextBehind text tokens token → ((front : List Kind) → IsBehind front old.parser → ¬ (BeginsSentence (front ++ token.kind ∷ []))) → line ≡ line_at text token.start → IsCauseOf text base (BadTrig line)
+bad_token text base first tokens token old line utf8 taken no_end next none line_is = record {
   utf8 = utf8;
   front = tokens;
   start = token.start;
@@ -118,50 +132,72 @@ bad_token text base tokens token old line utf8 taken no_end next none line_is = 
   line_is = line_is;
 }
 
-pub bad_place : (text : Text) (base : Option Text) (tokens : List Token) (old : Reading) (start line : ℕ) → IsUtf8 text → HasTaken text base tokens old → HaveNoEnd tokens → HasNoneBehind text tokens
-    → IsTokenStart text (place_behind 0 tokens) start → line ≡ line_at text start → IsCauseOf text base (BadTrig line)
-bad_place text base tokens old start line utf8 taken no_end none at line_is = record {
+pub bad_place : (text : Text) (base : Option Text) (first : Reading) (tokens : List Token) (old : Reading) (place start line : ℕ) → IsUtf8 text → HasTaken text first tokens old → HaveNoEnd tokens → place ≡ place_behind 0 tokens
+    → HasNoneBehind text tokens → IsTokenStart text place start → line ≡ line_at text start → IsCauseOf text base (BadTrig line)
+bad_place text base first tokens old place start line utf8 taken no_end here none at line_is = record {
   utf8 = utf8;
   front = tokens;
   start = start;
   begins = taken.begins;
   goes_on = no_end;
   sentence = sentence_begins (kinds tokens) taken.behind.begins;
-  bad = inr (none, at);
+  bad = inr (none, subst (λ (p : ℕ). IsTokenStart text p start) here at);
   line_is = line_is;
 }
 
 -- ---- all tokens were taken
 
-pub missing_cause : (text : Text) (base : Option Text) (tokens : List Token) (reading : Reading) (missing : Missing) (line : ℕ) → IsUtf8 text → HasTaken text base tokens reading → AreTokens text tokens
+pub taken_all : (text : Text) (first : Reading) (tokens : List Token) (last : Token) (reading : Reading) → HasTaken text first (tokens ++ last ∷ []) reading → HaveNoEnd tokens → last.kind ≡ End → HasTakenAll text first reading
+taken_all text first tokens last reading taken no_end end =
+    let are : AreTokens text (tokens ++ last ∷ []) = record { front = tokens; last = last; are = refl; begins = taken.begins; goes_on = no_end; ends = end } in
+    record { tokens = tokens ++ last ∷ []; are_tokens = are; sentence = begun_tokens_are text (tokens ++ last ∷ []) are taken.behind.begins; told = taken.told }
+
+pub missing_cause : (text : Text) (first : Reading) (base : Option Text) (reading : Reading) (missing : Missing) (line : ℕ) → IsUtf8 text → HasTakenAll text first reading → Builds first.builder (begin base)
     → ((s : State) → Builds reading.builder s → undefined_of (Some missing) ≡ s.undefined) → line ≡ line_at text reading.last_told → IsCauseOf text base (fault_at missing line)
-missing_cause text base tokens reading missing line utf8 taken are is line_is = by missing (is (says base taken.told.leaves) taken.told.builds)
+missing_cause text first base reading missing line utf8 all begins is line_is = by missing (is (says base told.leaves) told.builds)
   where
-    use_in : (why : Undefined) → (says base taken.told.leaves).undefined ≡ Some why → IsUndefined text base why line
+    told : HasTold text base all.tokens reading.builder reading.last_told
+    told = all.told base begins
+
+    use_in : (why : Undefined) → (says base told.leaves).undefined ≡ Some why → IsUndefined text base why line
     use_in why now =
-        let at = taken.told.use_at why now in
+        let at = told.use_at why now in
         record {
           utf8 = utf8;
-          tokens = tokens;
+          tokens = all.tokens;
           use_at = at.use_at;
-          are_tokens = are;
-          sentence = begun_tokens_are text tokens are taken.behind.begins;
+          are_tokens = all.are_tokens;
+          sentence = all.sentence;
           first = at.first;
           line_is = line_is ∙ ap (line_at text) at.place_is;
         }
 
-    by : (m : Missing) → undefined_of (Some m) ≡ (says base taken.told.leaves).undefined → IsCauseOf text base (fault_at m line)
+    by : (m : Missing) → undefined_of (Some m) ≡ (says base told.leaves).undefined → IsCauseOf text base (fault_at m line)
     by Prefix e = use_in NoPrefix (sym e)
     by Base e = use_in HasNoBase (sym e)
 
-pub whole_draft : (text : Text) (base : Option Text) (tokens : List Token) (reading : Reading) (missing : Option Missing) (draft : Document) → HasTaken text base tokens reading → AreTokens text tokens
-    → missing ≡ None → ((s : State) → Builds reading.builder s → undefined_of missing ≡ s.undefined) → ((s : State) → Builds reading.builder s → Drafts draft s.told) → IsDraftOf text base draft
-whole_draft text base tokens reading missing draft taken are none is drafts = record {
-  tokens = tokens;
-  leaves = taken.told.leaves;
-  are_tokens = are;
-  sentence = begun_tokens_are text tokens are taken.behind.begins;
-  are_leaves = taken.told.are_leaves;
-  defined = sym (is (says base taken.told.leaves) taken.told.builds) ∙ ap undefined_of none;
-  drafts = drafts (says base taken.told.leaves) taken.told.builds;
-}
+pub whole_draft : (text : Text) (first : Reading) (base : Option Text) (reading : Reading) (draft : Document) → HasTakenAll text first reading → Builds first.builder (begin base)
+    → ((s : State) → Builds reading.builder s → None ≡ s.undefined) → ((s : State) → Builds reading.builder s → Drafts draft s.told) → IsDraftOf text base draft
+whole_draft text first base reading draft all begins is drafts =
+    let told = all.told base begins in
+    record {
+      tokens = all.tokens;
+      leaves = told.leaves;
+      are_tokens = all.are_tokens;
+      sentence = all.sentence;
+      are_leaves = told.are_leaves;
+      defined = sym (is (says base told.leaves) told.builds);
+      drafts = drafts (says base told.leaves) told.builds;
+    }
+
+-- ---- where the next token is looked for
+
+pub next_at : (text : Text) (tokens : List Token) (place : ℕ) (after_string : Bool) (token : Token) → place ≡ place_behind 0 tokens → after_string ≡ is_behind_string false tokens
+    → IsTokenAt after_string text place token → IsNextBehind text tokens token
+next_at text tokens place after_string token at after is =
+    subst (λ (a : Bool). IsTokenAt a text (place_behind 0 tokens) token) after (subst (λ (p : ℕ). IsTokenAt after_string text p token) at is)
+
+pub none_at : (text : Text) (tokens : List Token) (place : ℕ) (after_string : Bool) → place ≡ place_behind 0 tokens → after_string ≡ is_behind_string false tokens
+    → HasNoTokenAt after_string text place → HasNoneBehind text tokens
+none_at text tokens place after_string at after none =
+    subst (λ (a : Bool). HasNoTokenAt a text (place_behind 0 tokens)) after (subst (λ (p : ℕ). HasNoTokenAt after_string text p) at none)

@@ -1,5 +1,5 @@
 -- The tokens of a text, one behind the other, are told by the text.
-use Rattle.std.proofs.Common.{◌≡◌, ◌≢◌, ℕ, Bool, false, List, [], ◌∷◌, ◌++◌, length, All, refl, sym, ap, subst, ◌∙◌, arith, ◌⊎◌, inl, inr, append_assoc, append-nil}
+use Rattle.std.proofs.Common.{◌≡◌, ◌≢◌, ℕ, Bool, false, List, [], ◌∷◌, ◌++◌, length, All, refl, sym, ap, subst, ◌∙◌, arith, inl, inr, append_assoc, append-nil}
 use Rattle.std.proofs.lemmas.List.{map-append, length-append}
 use Rattle.std.proofs.lemmas.List.Elements.{All-head, All-tail}
 use Rattle.rdf_terms.specs.Lists.{Text}
@@ -7,13 +7,13 @@ use Rattle.terminals.proofs.Escaping.{same_head, same_tail}
 use Rattle.trig_lexer.specs.declared.kind.Kind.{Kind}
 use Rattle.trig_lexer.specs.declared.kind.Kind.TheVariants.{End}
 use Rattle.trig_lexer.specs.declared.token.Token.{Token}
-use Rattle.trig_lexer.specs.Tokens.{IsTokenAt, HasNoTokenAt, IsTokenStart}
+use Rattle.trig_lexer.specs.Tokens.{IsTokenAt}
 use Rattle.trig_lexer.proofs.OneToken.{one_token, token_or_none, one_start}
 use Rattle.trig_grammar.specs.Grammar.{IsSentence, BeginsSentence}
 use Rattle.trig_grammar.specs.Published.{IsPublishedSentence}
 use Rattle.trig_grammar.proofs.Factoring.{same_sentences}
 use Rattle.trig_grammar.proofs.Ending.{begun_is_whole}
-use Rattle.trig_reader.specs.Tokens.{is_string, Follow, place_behind, is_behind_string, BeginsWith, IsNextBehind, HasNoneBehind, HaveNoEnd, AreTokens, kinds, AreSentence, BeginDocument}
+use Rattle.trig_reader.specs.Tokens.{is_string, Follow, place_behind, is_behind_string, BeginsWith, IsNextBehind, AreTokens, kinds, AreSentence, BeginDocument}
 use Rattle.trig_reader.specs.Document.{IsBadNext}
 
 -- ---- lists

@@ -8,12 +8,13 @@ use Rattle.trig_lexer.specs.declared.token.Token.{Token}
 use Rattle.trig_grammar.specs.Stack.{IsBehind}
 use Rattle.trig_terms.specs.declared.leaf.Leaf.{Leaf}
 use Rattle.trig_terms.specs.Leaves.{IsSpelled, bytes_of}
-use Rattle.trig_terms.specs.Meaning.{Undefined, says}
+use Rattle.trig_terms.specs.Meaning.{Undefined, begin, says}
 use Rattle.trig_builder.specs.Building.{IsReady, Builds}
 use Rattle.trig_builder.specs.Telling.{Drafts}
+use Rattle.trig_builder.specs.declared.builder.Builder.{Builder}
 use Rattle.trig_builder.specs.declared.builder.Missing.{Missing}
 use Rattle.trig_builder.specs.declared.builder.Missing.TheVariants.{Prefix, Base}
-use Rattle.trig_reader.specs.Tokens.{BeginsWith, AreTokens, kinds, AreSentence}
+use Rattle.trig_reader.specs.Tokens.{BeginsWith, IsNextBehind, HaveNoEnd, AreTokens, kinds, AreSentence}
 use Rattle.trig_reader.specs.Document.{AreLeaves, IsFirstUndefined}
 use Rattle.trig_reader.specs.declared.fault.TrigFault.{TrigFault}
 use Rattle.trig_reader.specs.declared.fault.TrigFault.TheVariants.{UnknownPrefix, NoBase}
@@ -33,18 +34,34 @@ pub record IsUseAt (text : Text) (base : Option Text) (tokens : List Token) (why
   pub place_is : place ≡ use_at.start
 
 -- the builder holds what these tokens say
-pub record HasTold (text : Text) (base : Option Text) (tokens : List Token) (reading : Reading) : Type 0 where
+pub record HasTold (text : Text) (base : Option Text) (tokens : List Token) (builder : Builder) (last_told : ℕ) : Type 0 where
   pub leaves : List Leaf
   pub are_leaves : AreLeaves text tokens leaves
-  pub ready : IsReady reading.builder
-  pub builds : Builds reading.builder (says base leaves)
-  pub use_at : (why : Undefined) → (says base leaves).undefined ≡ Some why → IsUseAt text base tokens why reading.last_told
+  pub builds : Builds builder (says base leaves)
+  pub use_at : (why : Undefined) → (says base leaves).undefined ≡ Some why → IsUseAt text base tokens why last_told
 
--- the text begins with these tokens, a document begins with them, and what they say is held
-pub record HasTaken (text : Text) (base : Option Text) (tokens : List Token) (reading : Reading) : Type 0 where
+-- The text begins with these tokens, and a document begins with them; they were taken since no token was, and what they say is held, whatever base there was.
+pub record HasTaken (text : Text) (first : Reading) (tokens : List Token) (reading : Reading) : Type 0 where
   pub begins : BeginsWith text tokens
   pub behind : IsBehind (kinds tokens) reading.parser
-  pub told : HasTold text base tokens reading
+  pub ready : IsReady reading.builder
+  pub told : (base : Option Text) → Builds first.builder (begin base) → HasTold text base tokens reading.builder reading.last_told
+
+-- this token is the next one behind those that were taken
+pub record IsAtNext (text : Text) (reading : Reading) (token : Token) : Type 0 where
+  pub first : Reading
+  pub tokens : List Token
+  pub taken : HasTaken text first tokens reading
+  pub no_end : HaveNoEnd tokens
+  pub next : IsNextBehind text tokens token
+  pub cut : IsCut text token
+
+-- all tokens of the text were taken, and they are those of a document
+pub record HasTakenAll (text : Text) (first reading : Reading) : Type 0 where
+  pub tokens : List Token
+  pub are_tokens : AreTokens text tokens
+  pub sentence : AreSentence tokens
+  pub told : (base : Option Text) → Builds first.builder (begin base) → HasTold text base tokens reading.builder reading.last_told
 
 -- the text is a document, each of whose uses has its definition, and the draft holds what it says
 pub record IsDraftOf (text : Text) (base : Option Text) (draft : Document) : Type 0 where

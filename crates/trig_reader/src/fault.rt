@@ -40,7 +40,10 @@ impl fmt::Display for TrigFault {
                 write!(f, "line {line} has a name with an unknown prefix")
             }
             TrigFault::NoBase { line } => {
-                write!(f, "line {line} has an IRI without a scheme, and there is no base")
+                write!(
+                    f,
+                    "line {line} has an IRI without a scheme, and there is no base"
+                )
             }
             TrigFault::TooManyQuads => f.write_str("too many quads"),
             TrigFault::NoMemory => f.write_str("out of memory"),
