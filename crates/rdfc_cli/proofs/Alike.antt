@@ -1,24 +1,21 @@
 -- Isomorphic files get their bijection, where one of them has no unjoined tie.
-use Rattle.std.proofs.Common.{◌≡◌, ℕ, ◌<◌, ◌≤◌, List, ◌∷◌, ◌++◌, Option, Some, IfSome, ◌⊎◌, inl, inr, refl, sym, ap, ◌∙◌, subst}
-use Rattle.rdf_terms.specs.Lists.{Text, In, Permutes, permutes_trans}
+use Rattle.std.proofs.Common.{◌≡◌, ℕ, ◌<◌, List, ◌∷◌, Option, IfSome, inl, inr, refl, sym, ap, ◌∙◌, subst}
+use Rattle.rdf_terms.specs.Lists.{Text, In, permutes_trans}
 use Rattle.rdf_terms.specs.Dataset.{Dataset}
-use Rattle.rdf_terms.specs.Isomorphism.{Relabelling, Carries, Symmetry, AreIsomorphic, relabel_statement}
+use Rattle.rdf_terms.specs.Isomorphism.{Relabelling, Carries, AreIsomorphic, relabel_statement}
 use Rattle.rdf_terms.proofs.Membership.{In-append_right}
 use Rattle.rdf_terms.proofs.Permutations.{Permutes-map, Permutes-sym}
-use Rattle.outside.specs.Faults.{Rose}
 use Rattle.canon_model.specs.Hashing.{Hashing}
-use Rattle.canon_model.specs.JoinedTies.{IsSettled, ties_of_run}
+use Rattle.canon_model.specs.JoinedTies.{IsSettled}
 use Rattle.canon_model.specs.QuadOrder.{HaveSameQuads}
-use Rattle.canon_model.specs.Ties.{AreJoined, IsJoined}
+use Rattle.canon_model.specs.Ties.{IsJoined}
 use Rattle.canon_model.proofs.QuadOrder.{counted_run_of_quads}
 use Rattle.canon_core.specs.Canonical.{IsUnsettledBy}
 use Rattle.ndegree_hash.specs.Log.{tie_of}
 use Rattle.ndegree_hash.specs.declared.tie.Tie.{Tie}
-use Rattle.rdfc_cli.specs.Answers.{Content, Accepts, FileSeen, Answers, IsCause, IsWithin, IsPast, hashing_of}
-use Rattle.rdfc_cli.specs.Completeness.{IsFine, AreFineAndAlike, IsPaired, FindsBijections}
-use Rattle.rdfc_cli.specs.Words.Command.{compare}
+use Rattle.rdfc_cli.specs.Answers.{Content, Accepts, FileSeen, IsCause, IsPast, hashing_of}
+use Rattle.rdfc_cli.specs.Completeness.{IsFine, FindsBijections}
 use Rattle.rdfc_cli.specs.declared.options.Settings.{Settings}
-use Rattle.rdfc_cli.specs.declared.status.Status.{Status}
 use Rattle.rdfc_cli.specs.declared.status.Status.TheVariants.{Done, Different, Usage, Unsettled, Refused, ReadFault, WriteFault, WorkLimit, NoMemory, Undecided, SearchLimit}
 use Rattle.rdfc_cli.specs.declared.status.Cause.{Cause}
 use Rattle.rdfc_cli.proofs.Headlines.{same_quads, same_units, of_told, not_both, no_cause_if_accepted}
@@ -73,20 +70,20 @@ not_unsettled ρ D t settled u =
 
 -- ---- one file, read in two ways
 
-module _ (settings : Settings) (file : FileSeen) (content read : Content) (fine : IsFine file settings content) (accepts : IfSome file.told (λ bytes. Accepts bytes read)) where
-  accepted : Accepts fine.bytes read
-  accepted = of_told file.told fine.bytes (λ bytes. Accepts bytes read) fine.told accepts
+module _ (settings : Settings) (file : FileSeen) (content read : Content) (fine : IsFine file settings content) (accepts : IfSome file.told (λ bytes. Accepts file.syntax bytes read)) where
+  accepted : Accepts file.syntax fine.bytes read
+  accepted = of_told file.told fine.bytes (λ bytes. Accepts file.syntax bytes read) fine.told accepts
 
   read_quads : HaveSameQuads content.dataset read.dataset
-  read_quads = same_quads fine.bytes content read fine.accepts accepted
+  read_quads = same_quads file.syntax fine.bytes content read fine.accepts accepted
 
   not_past : ¬ (IsPast settings read.dataset)
   not_past past =
-      not_both _ settings.limit (subst (λ n. settings.limit < n) (same_units (hashing_of settings) fine.bytes content read fine.accepts accepted) past) fine.within
+      not_both _ settings.limit (subst (λ n. settings.limit < n) (same_units (hashing_of settings) file.syntax fine.bytes content read fine.accepts accepted) past) fine.within
 
-not_refused : (settings : Settings) (file : FileSeen) (content : Content) (cause : Cause) → IsFine file settings content → IfSome file.told (λ bytes. IsCause bytes cause) → ⊥
+not_refused : (settings : Settings) (file : FileSeen) (content : Content) (cause : Cause) → IsFine file settings content → IfSome file.told (λ bytes. IsCause file.syntax bytes cause) → ⊥
 not_refused settings file content cause fine c =
-    no_cause_if_accepted fine.bytes content cause fine.accepts (of_told file.told fine.bytes (λ bytes. IsCause bytes cause) fine.told c)
+    no_cause_if_accepted file.syntax fine.bytes content cause fine.accepts (of_told file.told fine.bytes (λ bytes. IsCause file.syntax bytes cause) fine.told c)
 
 -- ---- two files
 

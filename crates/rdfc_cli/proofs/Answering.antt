@@ -1,8 +1,7 @@
 -- From what a command did to what a run answers.
-use Rattle.std.proofs.Common.{◌≡◌, ℕ, ◌≤◌, List, Option, Some, None, IfSome, Result, Ok, Err, IfOk, IfErr, inl, inr, refl, sym, ap, subst, arith}
-use Rattle.std.specs.Io.KnownBytes.{Appends}
+use Rattle.std.proofs.Common.{◌≡◌, ℕ, ◌≤◌, Option, Some, None, IfSome, Result, Ok, Err, IfOk, IfErr, inl, inr, refl, sym, ap, subst, arith}
 use Rattle.rdf_terms.specs.Lists.{Text}
-use Rattle.rdf_terms.specs.Document.{Document, dataset}
+use Rattle.rdf_terms.specs.Document.{Document}
 use Rattle.outside.specs.Faults.{Rose}
 use Rattle.load_document.specs.LoadDocument.{load_document}
 use Rattle.rdfc_cli.specs.Answers.{Content, Accepts, FileSeen, IsCause, IfAccepted, AreBothAccepted, IsPast, IsRunText, IsWritten, Stops, Answers}
@@ -11,8 +10,9 @@ use Rattle.rdfc_cli.specs.FileFaults.{content_of, IsFileFault, IsFaultStatus}
 use Rattle.rdfc_cli.specs.Forms.{IsPairOutput, IsPairStop}
 use Rattle.rdfc_cli.specs.Outputs.{IsTaskOutput, IsSummaryOutput, IsRunStop, IsLeanOutput, IsLeanEnd, Delivers}
 use Rattle.rdfc_cli.specs.Leaning.{IsLeaning, HasGraphName, IsPastMaps}
-use Rattle.rdfc_cli.specs.Words.{Command}
+use Rattle.rdfc_cli.specs.Words.{Command, Syntax}
 use Rattle.rdfc_cli.specs.Words.Command.{on_file, compare, lean, load}
+use Rattle.rdfc_cli.specs.Words.Syntax.{nquads}
 use Rattle.rdfc_cli.specs.declared.files.FileFault.{FileFault}
 use Rattle.rdfc_cli.specs.declared.files.FileFault.TheVariants.{Failed, Refused as RefusedFile, NoMemory as NoMemoryForFile}
 use Rattle.rdfc_cli.specs.declared.options.Settings.{Settings}
@@ -24,12 +24,12 @@ use Rattle.rdfc_cli.specs.declared.status.Status.TheVariants.{Done, Different, U
 
 -- ---- a file that is told is accepted
 
-if_told : (told : Option Text) (d : Document) (Fact : Content → Type 0) → IfSome told (λ t. Accepts t (content_of d)) → Fact (content_of d) → IfSome told (λ bytes. (content : Content) × Accepts bytes content × Fact content)
-if_told None d Fact a f = tt
-if_told (Some t) d Fact a f = (content_of d, a, f)
+if_told : (syntax : Syntax) (told : Option Text) (content : Content) (Fact : Content → Type 0) → IfSome told (λ t. Accepts syntax t content) → Fact content → IfSome told (λ bytes. (content : Content) × Accepts syntax bytes content × Fact content)
+if_told syntax None content Fact a f = tt
+if_told syntax (Some t) content Fact a f = (content, a, f)
 
-pub if_accepted : (file : FileSeen) (d : Document) (Fact : Content → Type 0) → IfSome file.told (λ t. Accepts t (content_of d)) → Fact (content_of d) → IfAccepted file Fact
-if_accepted file d Fact a f = if_told file.told d Fact a f
+pub if_accepted : (file : FileSeen) (d : Document) (Fact : Content → Type 0) → IfSome file.told (λ t. Accepts file.syntax t (content_of d)) → Fact (content_of d) → IfAccepted file Fact
+if_accepted file d Fact a f = if_told file.syntax file.told (content_of d) Fact a f
 
 -- ---- why nothing is written
 
@@ -39,7 +39,7 @@ module _ (file : Text → FileSeen) (task : Task) (word : Text) (settings : Sett
   stops-file_fault (RefusedFile cause) status f e = subst (Stops file (on_file task word) settings) (sym e) (inl (refl, f))
   stops-file_fault NoMemoryForFile status f e = subst (Stops file (on_file task word) settings) (sym e) tt
 
-  pub stops-run : (d : Document) (status : Status) → IfSome (file word).told (λ t. Accepts t (content_of d)) → IsRunStop settings d status → Stops file (on_file task word) settings status
+  pub stops-run : (d : Document) (status : Status) → IfSome (file word).told (λ t. Accepts (file word).syntax t (content_of d)) → IsRunStop settings d status → Stops file (on_file task word) settings status
   stops-run d Done a s = absurd s
   stops-run d Different a s = absurd s
   stops-run d Usage a s = absurd s
@@ -52,24 +52,20 @@ module _ (file : Text → FileSeen) (task : Task) (word : Text) (settings : Sett
   stops-run d (Undecided t u) a s = absurd s
   stops-run d (SearchLimit limit image) a s = absurd s
 
-  pub written : (d : Document) (output : Output) → IfSome (file word).told (λ t. Accepts t (content_of d)) → IsTaskOutput task settings d output → IsWritten file (on_file task word) settings output.unsettled output.text
+  pub written : (d : Document) (output : Output) → IfSome (file word).told (λ t. Accepts (file word).syntax t (content_of d)) → IsTaskOutput task settings d output → IsWritten file (on_file task word) settings output.unsettled output.text
   written d output a o = if_accepted (file word) d (λ content. IsRunText settings output.unsettled (λ ρ. IsTextOf task ρ content.dataset content.labels) content.dataset output.text) a o
 
 -- ---- two files
 
 -- what a later look at the file says of a fault, an earlier one says too
-pub fault-seen_before : (file later : FileSeen) (fault : FileFault) → later.told ≡ file.told → file.faults ≤ later.faults → later.faults_now ≡ file.faults_now → IsFileFault later fault → IsFileFault file fault
-fault-seen_before file later Failed told before now f = omega (arith, f)
-fault-seen_before file later (RefusedFile cause) told before now f = subst (λ t. IfSome t (λ bytes. IsCause bytes cause)) told f
-fault-seen_before file later NoMemoryForFile told before now f = tt
+pub fault-seen_before : (file later : FileSeen) (fault : FileFault) → later.syntax ≡ file.syntax → later.told ≡ file.told → file.faults ≤ later.faults → later.faults_now ≡ file.faults_now → IsFileFault later fault → IsFileFault file fault
+fault-seen_before file later Failed syntax told before now f = omega (arith, f)
+fault-seen_before file later (RefusedFile cause) syntax told before now f = subst (λ t. IfSome t (λ bytes. IsCause file.syntax bytes cause)) told (subst (λ x. IfSome later.told (λ bytes. IsCause x bytes cause)) syntax f)
+fault-seen_before file later NoMemoryForFile syntax told before now f = tt
 
 -- a file of which more is known than that it is accepted
-pub if_accepted-form : (file : FileSeen) (content : Content) → IfSome file.told (λ t. Accepts t content) → IfAccepted file (λ content. Unit {0})
-if_accepted-form file content a = by file.told a
-  where
-    by : (told : Option Text) → IfSome told (λ t. Accepts t content) → IfSome told (λ bytes. (content : Content) × Accepts bytes content × Unit {0})
-    by None a = tt
-    by (Some t) a = (content, a, tt)
+pub if_accepted-form : (file : FileSeen) (content : Content) → IfSome file.told (λ t. Accepts file.syntax t content) → IfAccepted file (λ content. Unit {0})
+if_accepted-form file content a = if_told file.syntax file.told content (λ content. Unit {0}) a tt
 
 module _ (file : Text → FileSeen) (first second : Text) (settings : Settings) where
   pub stops-first_fault : (fault : FileFault) (status : Status) → IsFileFault (file first) fault → IsFaultStatus fault 0 status → Stops file (compare first second) settings status
@@ -82,7 +78,7 @@ module _ (file : Text → FileSeen) (first second : Text) (settings : Settings) 
   stops-second_fault (RefusedFile cause) status a f e = subst (Stops file (compare first second) settings) (sym e) (inl (inr (refl, a, f)))
   stops-second_fault NoMemoryForFile status a f e = subst (Stops file (compare first second) settings) (sym e) tt
 
-  module _ (content other : Content) (accepts : IfSome (file first).told (λ t. Accepts t content)) (accepts_other : IfSome (file second).told (λ t. Accepts t other)) where
+  module _ (content other : Content) (accepts : IfSome (file first).told (λ t. Accepts (file first).syntax t content)) (accepts_other : IfSome (file second).told (λ t. Accepts (file second).syntax t other)) where
     both : (Fact : Content → Content → Type 0) → Fact content other → AreBothAccepted (file first) (file second) Fact
     both Fact f = record { content = content; other = other; accepts = accepts; accepts_other = accepts_other; fact = f }
 
@@ -110,7 +106,7 @@ module _ (file : Text → FileSeen) (word : Text) (settings : Settings) where
   stops-graph_fault (RefusedFile cause) status f e = subst (Stops file (lean word) settings) (sym e) (inl (refl, f))
   stops-graph_fault NoMemoryForFile status f e = subst (Stops file (lean word) settings) (sym e) tt
 
-  pub stops-graph : (d : Document) (status : Status) → IfSome (file word).told (λ t. Accepts t (content_of d)) → IsLeanEnd settings d status → Stops file (lean word) settings status
+  pub stops-graph : (d : Document) (status : Status) → IfSome (file word).told (λ t. Accepts (file word).syntax t (content_of d)) → IsLeanEnd settings d status → Stops file (lean word) settings status
   stops-graph d Done a s = absurd s
   stops-graph d Different a s = absurd s
   stops-graph d Usage a s = absurd s
@@ -124,12 +120,12 @@ module _ (file : Text → FileSeen) (word : Text) (settings : Settings) where
   stops-graph d (Undecided t u) a s = absurd s
   stops-graph d (SearchLimit limit image) a s = (s.0, if_accepted (file word) d (λ content. IsPastMaps content.dataset settings.limit image) a s.1)
 
-  pub written-graph : (d : Document) (output : Output) → IfSome (file word).told (λ t. Accepts t (content_of d)) → IsLeanOutput settings d output → IsWritten file (lean word) settings output.unsettled output.text
+  pub written-graph : (d : Document) (output : Output) → IfSome (file word).told (λ t. Accepts (file word).syntax t (content_of d)) → IsLeanOutput settings d output → IsWritten file (lean word) settings output.unsettled output.text
   written-graph d output a o = (o.0, if_accepted (file word) d (λ content. IsLeaning settings.map settings.limit content.dataset output.text) a o.1)
 
 -- ---- a document that is made
 
-module _ (file : Text → FileSeen) (n : ℕ) (settings : Settings) (d : Document) (accepts : Accepts (load_document n) (content_of d)) where
+module _ (file : Text → FileSeen) (n : ℕ) (settings : Settings) (d : Document) (accepts : Accepts nquads (load_document n) (content_of d)) where
   pub written-made : (output : Output) → IsSummaryOutput settings d output → IsWritten file (load n) settings output.unsettled output.text
   written-made output o = (content_of d, accepts, o)
 

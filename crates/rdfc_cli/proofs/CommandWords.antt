@@ -1,22 +1,26 @@
 -- Commands as words: some words spell at most one command, with one list of options.
-use Rattle.std.proofs.Common.{◌≡◌, ℕ, true≢false, arith, List, [], ◌∷◌, ◌++◌, codes, get_or, inl, inr, if◌then◌else◌, ◌==◌, refl, sym, ap, ◌∙◌, subst, true, false}
+use Rattle.std.proofs.Common.{◌≡◌, ℕ, ◌⊎◌, Bool, None, IfSome, true≢false, arith, List, [], ◌∷◌, ◌++◌, codes, get_or, inl, inr, if◌then◌else◌, ◌==◌, refl, sym, ap, ◌∙◌, subst, true, false}
 use Rattle.std.specs.Prelude.{flat_map}
 use Rattle.rdf_terms.specs.Lists.{Text, In}
 use Rattle.rdf_terms.specs.Numeral.{numeral}
+use Rattle.rdf_terms.proofs.Membership.{In-map, from_In-map}
 use Rattle.rdf_terms.proofs.Numerals.{IsDigit, In-numeral, numeral-injective}
-use Rattle.rdfc_cli.specs.Words.{Command, Given, task_word, command_word, operands, spelled_option, name_word, HasGoodOperands, TakesOption, IsCommand, IsNoCommand, settings_in}
+use Rattle.canon_model.specs.declared.profile.HashKind.TheVariants.{Sha256}
+use Rattle.canon_model.specs.declared.profile.Related.TheVariants.{Each}
+use Rattle.trig_builder.specs.Building.{IsWhole as IsBase}
+use Rattle.rdfc_cli.specs.Words.{Command, Given, Syntax, task_word, command_word, operands, option_name, spelled_option, name_word, given_base, given_trig, HasGoodOperands, HasGoodValue, TakesOption, IsCommand, IsNoCommand, settings_in, syntax_in}
 use Rattle.rdfc_cli.specs.Words.Command.{on_file, compare, lean, load}
-use Rattle.rdfc_cli.specs.Words.Given.{limit, hash, related, as_map}
-use Rattle.rdfc_cli.specs.Options.{options_in, AreTaken, BeginsNoOption, BeginsWithOptions, AreOptions, AreNoOptions}
-use Rattle.rdfc_cli.specs.Requests.{command_of, IsRequest, IsSpelled}
+use Rattle.rdfc_cli.specs.Words.Given.{hash, related, as_map, as_trig, base}
+use Rattle.rdfc_cli.specs.Words.Syntax.{nquads, trig}
+use Rattle.rdfc_cli.specs.Options.{Chosen, chosen_by, AreTaken, IsNew, HasFittingBase, BeginsNoOption, BeginsWithOptions, AreOptions, AreNoOptions}
+use Rattle.rdfc_cli.specs.Requests.{command_of, syntax_of, IsRequest, IsSpelled, HasGoodBase}
 use Rattle.rdfc_cli.specs.declared.words.Request.{Request}
 use Rattle.rdfc_cli.specs.declared.options.Settings.{Settings}
-use Rattle.rdfc_cli.specs.declared.options.Options.{Options}
 use Rattle.rdfc_cli.specs.declared.options.OptionName.{OptionName}
-use Rattle.rdfc_cli.specs.declared.options.OptionName.TheVariants.{Limit, Hash, Related, Map as MapName}
+use Rattle.rdfc_cli.specs.declared.options.OptionName.TheVariants.{Limit}
 use Rattle.rdfc_cli.specs.declared.words.Task.{Task}
 use Rattle.rdfc_cli.specs.declared.words.Task.TheVariants.{Canon, Hash as HashTask, Map, Ties}
-use Rattle.rdfc_cli.proofs.OptionWords.{head_same, tail_same, not_empty, same_options}
+use Rattle.rdfc_cli.proofs.OptionWords.{head_same, tail_same, not_empty, same_options, name_there, new_name}
 
 -- the first byte tells a task
 task_at : ℕ → Task
@@ -76,9 +80,7 @@ same_command (load m) (load n) w o = ap load (numeral-injective m n (head_same (
 
 dash_first : (name : OptionName) (b : ℕ) (bs : Text) → b ∷ bs ≡ name_word name → b ≡ 45
 dash_first Limit b bs e = ap (λ w. get_or w 0 0) e
-dash_first Hash b bs e = ap (λ w. get_or w 0 0) e
-dash_first Related b bs e = ap (λ w. get_or w 0 0) e
-dash_first MapName b bs e = ap (λ w. get_or w 0 0) e
+dash_first name b bs e = ap (λ w. get_or w 0 0) e
 
 -- the operands of a command begin with no option's name
 operands_no_option : (c : Command) → HasGoodOperands c → BeginsNoOption (operands c)
@@ -92,66 +94,71 @@ operands_no_option (load n) good = λ name e. no_digit (In-numeral n 45 (subst (
   where
     begins_with_dash : (name : OptionName) → In 45 (name_word name)
     begins_with_dash Limit = inl refl
-    begins_with_dash Hash = inl refl
-    begins_with_dash Related = inl refl
-    begins_with_dash MapName = inl refl
+    begins_with_dash name = inl refl
 
     no_digit : ¬ (IsDigit 45)
     no_digit d = omega (arith, d.0, d.1)
 
--- the command takes each of the options, where it takes what they set
-takes_options : (c : Command) (given : List Given) → AreTaken c (options_in given) → (g : Given) → In g given → TakesOption c g
-takes_options (on_file t f) [] taken g i = absurd i
-takes_options (on_file t f) (limit n ∷ gs) taken g (inl e) = subst (TakesOption (on_file t f)) (sym e) tt
-takes_options (on_file t f) (limit n ∷ gs) taken g (inr i) = takes_options (on_file t f) gs taken g i
-takes_options (on_file t f) (hash k ∷ gs) taken g (inl e) = subst (TakesOption (on_file t f)) (sym e) tt
-takes_options (on_file t f) (hash k ∷ gs) taken g (inr i) = takes_options (on_file t f) gs taken g i
-takes_options (on_file t f) (related r ∷ gs) taken g (inl e) = subst (TakesOption (on_file t f)) (sym e) tt
-takes_options (on_file t f) (related r ∷ gs) taken g (inr i) = takes_options (on_file t f) gs taken g i
-takes_options (on_file t f) (as_map ∷ gs) taken g i = absurd (true≢false taken)
-takes_options (compare f s) [] taken g i = absurd i
-takes_options (compare f s) (limit n ∷ gs) taken g (inl e) = subst (TakesOption (compare f s)) (sym e) tt
-takes_options (compare f s) (limit n ∷ gs) taken g (inr i) = takes_options (compare f s) gs taken g i
-takes_options (compare f s) (hash k ∷ gs) taken g i = absurd (let e = taken.0.0 in cc)
-takes_options (compare f s) (related r ∷ gs) taken g i = absurd (let e = taken.0.1 in cc)
-takes_options (compare f s) (as_map ∷ gs) taken g i = absurd (true≢false taken.1)
-takes_options (lean f) [] taken g i = absurd i
-takes_options (lean f) (limit n ∷ gs) taken g (inl e) = subst (TakesOption (lean f)) (sym e) tt
-takes_options (lean f) (limit n ∷ gs) taken g (inr i) = takes_options (lean f) gs taken g i
-takes_options (lean f) (hash k ∷ gs) taken g i = absurd (let e = taken.0 in cc)
-takes_options (lean f) (related r ∷ gs) taken g i = absurd (let e = taken.1 in cc)
-takes_options (lean f) (as_map ∷ gs) taken g (inl e) = subst (TakesOption (lean f)) (sym e) tt
-takes_options (lean f) (as_map ∷ gs) taken g (inr i) = takes_options (lean f) gs taken g i
-takes_options (load m) [] taken g i = absurd i
-takes_options (load m) (limit n ∷ gs) taken g (inl e) = subst (TakesOption (load m)) (sym e) tt
-takes_options (load m) (limit n ∷ gs) taken g (inr i) = takes_options (load m) gs taken g i
-takes_options (load m) (hash k ∷ gs) taken g (inl e) = subst (TakesOption (load m)) (sym e) tt
-takes_options (load m) (hash k ∷ gs) taken g (inr i) = takes_options (load m) gs taken g i
-takes_options (load m) (related r ∷ gs) taken g (inl e) = subst (TakesOption (load m)) (sym e) tt
-takes_options (load m) (related r ∷ gs) taken g (inr i) = takes_options (load m) gs taken g i
-takes_options (load m) (as_map ∷ gs) taken g i = absurd (true≢false taken)
+-- ---- what a command takes
 
-options_taken : (c : Command) (given : List Given) → ((g : Given) → In g given → TakesOption c g) → AreTaken c (options_in given)
-options_taken (on_file t f) [] all = refl
-options_taken (on_file t f) (limit n ∷ gs) all = options_taken (on_file t f) gs (λ g i. all g (inr i))
-options_taken (on_file t f) (hash k ∷ gs) all = options_taken (on_file t f) gs (λ g i. all g (inr i))
-options_taken (on_file t f) (related r ∷ gs) all = options_taken (on_file t f) gs (λ g i. all g (inr i))
-options_taken (on_file t f) (as_map ∷ gs) all = absurd (all as_map (inl refl))
-options_taken (compare f s) [] all = ((refl, refl), refl)
-options_taken (compare f s) (limit n ∷ gs) all = options_taken (compare f s) gs (λ g i. all g (inr i))
-options_taken (compare f s) (hash k ∷ gs) all = absurd (all (hash k) (inl refl))
-options_taken (compare f s) (related r ∷ gs) all = absurd (all (related r) (inl refl))
-options_taken (compare f s) (as_map ∷ gs) all = absurd (all as_map (inl refl))
-options_taken (lean f) [] all = (refl, refl)
-options_taken (lean f) (limit n ∷ gs) all = options_taken (lean f) gs (λ g i. all g (inr i))
-options_taken (lean f) (hash k ∷ gs) all = absurd (all (hash k) (inl refl))
-options_taken (lean f) (related r ∷ gs) all = absurd (all (related r) (inl refl))
-options_taken (lean f) (as_map ∷ gs) all = options_taken (lean f) gs (λ g i. all g (inr i))
-options_taken (load m) [] all = refl
-options_taken (load m) (limit n ∷ gs) all = options_taken (load m) gs (λ g i. all g (inr i))
-options_taken (load m) (hash k ∷ gs) all = options_taken (load m) gs (λ g i. all g (inr i))
-options_taken (load m) (related r ∷ gs) all = options_taken (load m) gs (λ g i. all g (inr i))
-options_taken (load m) (as_map ∷ gs) all = absurd (all as_map (inl refl))
+-- the command takes an option of this name, or none was read
+takes : (c : Command) (chosen : Chosen) → AreTaken c chosen → (g : Given) → TakesOption c (option_name g) ⊎ IsNew chosen g
+takes (on_file t f) chosen taken as_map = inr taken
+takes (on_file t f) chosen taken g = inl tt
+takes (compare f s) chosen taken (hash k) = inr taken.0.0
+takes (compare f s) chosen taken (related r) = inr taken.0.1
+takes (compare f s) chosen taken as_map = inr taken.1
+takes (compare f s) chosen taken g = inl tt
+takes (lean f) chosen taken (hash k) = inr taken.0
+takes (lean f) chosen taken (related r) = inr taken.1
+takes (lean f) chosen taken g = inl tt
+takes (load n) chosen taken as_map = inr taken.1
+takes (load n) chosen taken as_trig = inr taken.0.0
+takes (load n) chosen taken (base iri) = inr taken.0.1
+takes (load n) chosen taken g = inl tt
+
+-- the command takes each of the options, where it takes what they set
+takes_options : (c : Command) (given : List Given) → AreTaken c (chosen_by given) → (g : Given) → In g given → TakesOption c (option_name g)
+takes_options c given taken g i = elim (takes c (chosen_by given) taken g) [ inl t ↦ t | inr new ↦ absurd (name_there given g new (In-map option_name given g i)) ]
+
+module _ (c : Command) (given : List Given) (all : (g : Given) → In g given → TakesOption c (option_name g)) where
+  -- none was read of a name that the command does not take
+  new_if_refused : (g : Given) → ¬ (TakesOption c (option_name g)) → IsNew (chosen_by given) g
+  new_if_refused g refused = new_name given g (λ i. (let f = from_In-map option_name given (option_name g) i in refused (subst (TakesOption c) (sym f.2) (all f.0 f.1))))
+
+options_taken : (c : Command) (given : List Given) → ((g : Given) → In g given → TakesOption c (option_name g)) → AreTaken c (chosen_by given)
+options_taken (on_file t f) given all = new_if_refused (on_file t f) given all as_map (λ t. t)
+options_taken (compare f s) given all =
+    let new = new_if_refused (compare f s) given all in
+    ((new (hash Sha256) (λ t. t), new (related Each) (λ t. t)), new as_map (λ t. t))
+options_taken (lean f) given all =
+    let new = new_if_refused (lean f) given all in
+    (new (hash Sha256) (λ t. t), new (related Each) (λ t. t))
+options_taken (load n) given all =
+    let new = new_if_refused (load n) given all in
+    ((new as_trig (λ t. t), new (base []) (λ t. t)), new as_map (λ t. t))
+
+-- ---- a base is set for TriG alone
+
+base_there : (given : List Given) → ((iri : Text) → ¬ (In (base iri) given)) → given_base given ≡ None
+base_there [] none = refl
+base_there (base iri ∷ gs) none = absurd (none iri (inl refl))
+base_there (g ∷ gs) none = base_there gs (λ iri i. none iri (inr i))
+
+trig_there : (given : List Given) → given_trig given ≡ true → In as_trig given
+trig_there [] e = absurd (true≢false (sym e))
+trig_there (as_trig ∷ gs) e = inl refl
+trig_there (g ∷ gs) e = inr (trig_there gs e)
+
+fitting_base : (given : List Given) → ((iri : Text) → In (base iri) given → In as_trig given) → HasFittingBase (chosen_by given)
+fitting_base given of_trig none = base_there given (λ iri i. name_there given as_trig none (In-map option_name given as_trig (of_trig iri i)))
+
+of_trig : (given : List Given) → HasFittingBase (chosen_by given) → (iri : Text) → In (base iri) given → In as_trig given
+of_trig given fits iri i = by (given_trig given) refl
+  where
+    by : (b : Bool) → given_trig given ≡ b → In as_trig given
+    by true e = trig_there given e
+    by false e = absurd (name_there given (base iri) (fits e) (In-map option_name given (base iri) i))
 
 options_of : (word : Text) (more : List Text) (c : Command) (given : List Given) → IsCommand (word ∷ more) c given → BeginsWithOptions more given (operands c)
 options_of word more c given k = record { spelled = tail_same word (command_word c) more (flat_map spelled_option given ++ operands c) k.spelled; once = k.once; good = k.good_values }
@@ -167,30 +174,38 @@ no_command-empty c given k = not_empty (command_word c) (flat_map spelled_option
 pub no_command-options : (word : Text) (more : List Text) → AreNoOptions more → IsNoCommand (word ∷ more)
 no_command-options word more none c given k = none given (operands c) (operands_no_option c k.good_operands) (options_of word more c given k)
 
-pub no_command-operands : (word : Text) (more rest : List Text) (options : Options) → AreOptions more options rest → ((c : Command) → ¬ (IsSpelled word rest c)) → IsNoCommand (word ∷ more)
+pub no_command-operands : (word : Text) (more rest : List Text) (options : Chosen) → AreOptions more options rest → ((c : Command) → ¬ (IsSpelled word rest c)) → IsNoCommand (word ∷ more)
 no_command-operands word more rest options a none c given k =
     let b = options_of word more c given k in
     let s = same_options a.given given rest (operands c) a.no_more (operands_no_option c k.good_operands) (sym a.begins.spelled ∙ b.spelled) in
     none c (record { word_is = first_word word more c given k; operands_are = s.1; good = k.good_operands })
 
 -- the word and the operands spell the command alone, and it does not take an option that is there
-pub no_command-taken : (word : Text) (more rest : List Text) (options : Options) (c : Command) → AreOptions more options rest → IsSpelled word rest c → ¬ (AreTaken c options) → IsNoCommand (word ∷ more)
+pub no_command-taken : (word : Text) (more rest : List Text) (options : Chosen) (c : Command) → AreOptions more options rest → IsSpelled word rest c → ¬ (AreTaken c options) → IsNoCommand (word ∷ more)
 no_command-taken word more rest options c a s none d given k =
     let b = options_of word more d given k in
     let same = same_options a.given given rest (operands d) a.no_more (operands_no_option d k.good_operands) (sym a.begins.spelled ∙ b.spelled) in
     let command : d ≡ c = same_command d c (sym (first_word word more d given k) ∙ s.word_is) (sym same.1 ∙ s.operands_are) in
-    let taken : AreTaken d (options_in given) = options_taken d given k.taken in
-    let here : AreTaken c (options_in a.given) = subst (λ g. AreTaken c (options_in g)) same.0 (subst (λ e. AreTaken e (options_in given)) command taken) in
-    none (subst (AreTaken c) (sym a.options_are) here)
+    let taken : AreTaken d (chosen_by given) = options_taken d given k.taken in
+    let here : AreTaken c (chosen_by a.given) = subst (λ g. AreTaken c (chosen_by g)) same.0 (subst (λ e. AreTaken e (chosen_by given)) command taken) in
+    none (subst (AreTaken c) (sym a.chosen_is) here)
+
+-- a base is there, and files are not in TriG
+pub no_command-base : (word : Text) (more rest : List Text) (options : Chosen) (c : Command) → AreOptions more options rest → IsSpelled word rest c → ¬ (HasFittingBase options) → IsNoCommand (word ∷ more)
+no_command-base word more rest options c a s none d given k =
+    let b = options_of word more d given k in
+    let same = same_options a.given given rest (operands d) a.no_more (operands_no_option d k.good_operands) (sym a.begins.spelled ∙ b.spelled) in
+    none (subst HasFittingBase (sym a.chosen_is) (subst (λ g. HasFittingBase (chosen_by g)) same.0 (fitting_base given k.of_trig)))
 
 -- ---- words that are one
 
-pub command-of_parts : (word : Text) (more rest : List Text) (options : Options) (c : Command) (a : AreOptions more options rest) → IsSpelled word rest c → AreTaken c options → IsCommand (word ∷ more) c a.given
-command-of_parts word more rest options c a s t = record {
+pub command-of_parts : (word : Text) (more rest : List Text) (options : Chosen) (c : Command) (a : AreOptions more options rest) → IsSpelled word rest c → HasFittingBase options → AreTaken c options → IsCommand (word ∷ more) c a.given
+command-of_parts word more rest options c a s fits t = record {
   spelled = λ i. s.word_is i ∷ (a.begins.spelled ∙ ap (λ ws. flat_map spelled_option a.given ++ ws) s.operands_are) i;
   once = a.begins.once;
   good_values = a.begins.good;
-  taken = takes_options c a.given (subst (AreTaken c) a.options_are t);
+  taken = takes_options c a.given (subst (AreTaken c) a.chosen_is t);
+  of_trig = of_trig a.given (subst HasFittingBase a.chosen_is fits);
   good_operands = s.good;
 }
 
@@ -204,9 +219,23 @@ same_command_of_words (word ∷ more) c d given other k l =
     (same_command d c (sym (first_word word more d other l) ∙ first_word word more c given k) (sym s.1), s.0)
 
 -- what holds of the request that was read holds of whatever command the words spell
-pub of_request : (words : List Text) (request : Request) (P : Command → Settings → Type 0) → IsRequest words request → P (command_of request.command) request.settings
-    → (c : Command) (given : List Given) → IsCommand words c given → P c (settings_in given)
+pub of_request : (words : List Text) (request : Request) (P : Command → Settings → Syntax → Type 0) → IsRequest words request → P (command_of request.command) request.settings (syntax_of request.syntax)
+    → (c : Command) (given : List Given) → IsCommand words c given → P c (settings_in given) (syntax_in given)
 of_request words request P r p c given k =
     let s = same_command_of_words words (command_of request.command) c r.options given r.is_command k in
-    let here : P (command_of request.command) (settings_in r.options) = subst (P (command_of request.command)) r.settings_are p in
-    subst (λ d. P d (settings_in given)) (sym s.0) (subst (λ o. P (command_of request.command) (settings_in o)) (sym s.1) here)
+    let here : P (command_of request.command) (settings_in r.options) (syntax_of request.syntax) = subst (λ t. P (command_of request.command) t (syntax_of request.syntax)) r.settings_are p in
+    let there : P (command_of request.command) (settings_in r.options) (syntax_in r.options) = subst (P (command_of request.command) (settings_in r.options)) r.syntax_is here in
+    subst (λ d. P d (settings_in given) (syntax_in given)) (sym s.0) (subst (λ o. P (command_of request.command) (settings_in o) (syntax_in o)) (sym s.1) there)
+
+good_base : (given : List Given) → ((g : Given) → In g given → HasGoodValue g) → IfSome (given_base given) IsBase
+good_base [] good = tt
+good_base (base iri ∷ gs) good = good (base iri) (inl refl)
+good_base (g ∷ gs) good = good_base gs (λ h i. good h (inr i))
+
+-- the base of a request is one
+pub good_base_of_request : (words : List Text) (request : Request) → IsRequest words request → HasGoodBase (syntax_of request.syntax)
+good_base_of_request words request r = subst HasGoodBase (sym r.syntax_is) (by (given_trig r.options))
+  where
+    by : (b : Bool) → HasGoodBase (if b then trig (given_base r.options) else nquads)
+    by true = good_base r.options r.is_command.good_values
+    by false = tt

@@ -1,8 +1,8 @@
 -- The texts of a lean form, and why there is none.
-use Rattle.std.proofs.Common.{◌≡◌, ℕ, ◌<◌, ◌+◌, Bool, true, false, List, [], ◌∷◌, ◌++◌, All, length, map, get_or, Option, Some, None, IsSome, slice_get, refl, sym, ap, ◌∙◌, subst, add-one, true≢false}
+use Rattle.std.proofs.Common.{◌≡◌, ℕ, ◌+◌, List, [], ◌++◌, All, length, map, Option, Some, None, IsSome, refl, sym, ap, ◌∙◌, subst, add-one, true≢false}
 use Rattle.std.specs.Prelude.{flat_map}
 use Rattle.std.proofs.lemmas.List.{flat_map_more}
-use Rattle.rdf_terms.specs.Lists.{Text, In, joined, sorted, numbers_below}
+use Rattle.rdf_terms.specs.Lists.{Text, joined, sorted, numbers_below}
 use Rattle.rdf_terms.specs.CanonicalForm.{canonical_line}
 use Rattle.rdf_terms.specs.Document.{Document, IsInRange, dataset, statement, statements, term_at, graph_name_at}
 use Rattle.rdf_terms.specs.declared.term.Term.{Term}
@@ -15,7 +15,7 @@ use Rattle.lean_search.specs.Lean.{IsLeanForm, IsLeanStop, IsFirstNamed, map_by,
 use Rattle.lean_search.specs.declared.form.LeanForm.{LeanForm}
 use Rattle.lean_search.specs.declared.form.LeanStop.{LeanStop}
 use Rattle.lean_search.specs.declared.form.LeanStop.TheVariants.{NotOneGraph as NotOneGraphStop, SearchLimit as SearchLimitStop, NoMemory as NoMemoryStop}
-use Rattle.rdfc_cli.specs.Leaning.{IsLeanImage, IsLeanText, IsLeanMapText, IsLeaning, HasGraphName, mapped_line}
+use Rattle.rdfc_cli.specs.Leaning.{IsLeanImage, IsLeanText, IsLeanMapText, HasGraphName, mapped_line}
 use Rattle.rdfc_cli.specs.Outputs.{IsLeanEnd, EndsAs}
 use Rattle.rdfc_cli.specs.declared.options.Settings.{Settings}
 use Rattle.rdfc_cli.specs.declared.status.Status.{Status}

@@ -3,6 +3,7 @@ pub mod Putting
 pub mod Decimals
 pub mod Noting
 pub mod OptionWords
+pub mod BaseWords
 pub mod CommandWords
 pub mod Answering
 pub mod TieNodes

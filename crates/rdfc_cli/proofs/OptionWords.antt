@@ -1,8 +1,9 @@
 -- Options as words: how they are spelled tells which they are, and where they end.
-use Rattle.std.proofs.Common.{◌≡◌, ℕ, zero, suc, true, false, true≢false, List, [], ◌∷◌, ◌++◌, Some, None, Option, IfNone, map, codes, inl, inr, get_or, drop, length, if◌then◌else◌, ◌==◌, refl, sym, ap, ◌∙◌, subst, append_assoc, append-nil, arith}
+use Rattle.std.proofs.Common.{◌≡◌, ℕ, suc, true≢false, List, [], ◌∷◌, ◌++◌, Some, None, Option, IfNone, map, inl, inr, get_or, drop, length, if◌then◌else◌, ◌==◌, refl, sym, ap, ◌∙◌, subst, append_assoc, append-nil, arith}
 use Rattle.std.specs.Prelude.{flat_map}
+use Rattle.std.proofs.lemmas.List.{map-append}
 use Rattle.rdf_terms.specs.Lists.{Text, In, AreDistinct}
-use Rattle.rdf_terms.proofs.Membership.{In-append}
+use Rattle.rdf_terms.proofs.Membership.{AreDistinct-push, In-append, In-append_right, In-map}
 use Rattle.rdf_terms.specs.Numeral.{numeral}
 use Rattle.rdf_terms.proofs.Numerals.{numeral-injective}
 use Rattle.canon_model.specs.declared.profile.HashKind.{HashKind}
@@ -10,11 +11,10 @@ use Rattle.canon_model.specs.declared.profile.HashKind.TheVariants.{Sha256, Sha3
 use Rattle.canon_model.specs.declared.profile.Related.{Related as Reading}
 use Rattle.canon_model.specs.declared.profile.Related.TheVariants.{Each, Once}
 use Rattle.rdfc_cli.specs.Words.{Given, name_word, option_name, option_value, hash_word, related_word, spelled_option, HasGoodValue}
-use Rattle.rdfc_cli.specs.Words.Given.{limit, hash, related, as_map}
-use Rattle.rdfc_cli.specs.Options.{options_in, with_option, IsNew, MayFollow, MayRead, Adds, Reads, BeginsNoOption, BeginsWithName, BeginsWithOptions, AreOptions, AreNoOptions}
-use Rattle.rdfc_cli.specs.declared.options.Options.{Options}
+use Rattle.rdfc_cli.specs.Words.Given.{limit, hash, related, as_map, as_trig, base}
+use Rattle.rdfc_cli.specs.Options.{Chosen, chosen_by, with_option, IsNew, MayFollow, MayRead, Adds, Reads, BeginsNoOption, BeginsWithName, BeginsWithOptions, AreNoOptions}
 use Rattle.rdfc_cli.specs.declared.options.OptionName.{OptionName}
-use Rattle.rdfc_cli.specs.declared.options.OptionName.TheVariants.{Limit, Hash, Related, Map}
+use Rattle.rdfc_cli.specs.declared.options.OptionName.TheVariants.{Limit, Hash, Related, Map, TriG, Base}
 
 -- what holds at any rate
 pub if_none : {A P : Type 0} (o : Option A) → P → IfNone o P
@@ -38,7 +38,7 @@ at_place i s t e = ap (λ l. get_or l i 0) e
 
 -- the byte behind the two dashes tells an option's name
 name_at : ℕ → OptionName
-name_at byte = if byte == 108 then Limit else if byte == 104 then Hash else if byte == 109 then Map else Related
+name_at byte = if byte == 108 then Limit else if byte == 104 then Hash else if byte == 109 then Map else if byte == 116 then TriG else if byte == 98 then Base else Related
 
 name_of_word : (m : OptionName) → name_at (get_or (name_word m) 2 0) ≡ m
 unfolding name_at
@@ -46,6 +46,8 @@ name_of_word Limit = refl
 name_of_word Hash = refl
 name_of_word Related = refl
 name_of_word Map = refl
+name_of_word TriG = refl
+name_of_word Base = refl
 
 pub name_word-injective : (m n : OptionName) → name_word m ≡ name_word n → m ≡ n
 name_word-injective m n e = sym (name_of_word m) ∙ ap name_at (at_place 2 (name_word m) (name_word n) e) ∙ name_of_word n
@@ -77,21 +79,12 @@ related_word-injective m n e = sym (reading_of_word m) ∙ ap reading_at (at_pla
 -- options of one name, with the words behind the name
 same_behind : (g h : Given) (words more : List Text) → option_name g ≡ option_name h → option_value g ++ words ≡ option_value h ++ more → (g ≡ h) × (words ≡ more)
 same_behind (limit m) (limit n) words more e b = (ap limit (numeral-injective m n (head_same (numeral m) (numeral n) words more b)), tail_same (numeral m) (numeral n) words more b)
-same_behind (limit m) (hash l) words more e b = absurd (let c : option_name (limit m) ≡ option_name (hash l) = e in cc)
-same_behind (limit m) (related s) words more e b = absurd (let c : option_name (limit m) ≡ option_name (related s) = e in cc)
-same_behind (limit m) as_map words more e b = absurd (let c : option_name (limit m) ≡ option_name as_map = e in cc)
-same_behind (hash k) (limit n) words more e b = absurd (let c : option_name (hash k) ≡ option_name (limit n) = e in cc)
 same_behind (hash k) (hash l) words more e b = (ap hash (hash_word-injective k l (head_same (hash_word k) (hash_word l) words more b)), tail_same (hash_word k) (hash_word l) words more b)
-same_behind (hash k) (related s) words more e b = absurd (let c : option_name (hash k) ≡ option_name (related s) = e in cc)
-same_behind (hash k) as_map words more e b = absurd (let c : option_name (hash k) ≡ option_name as_map = e in cc)
-same_behind (related r) (limit n) words more e b = absurd (let c : option_name (related r) ≡ option_name (limit n) = e in cc)
-same_behind (related r) (hash l) words more e b = absurd (let c : option_name (related r) ≡ option_name (hash l) = e in cc)
 same_behind (related r) (related s) words more e b = (ap related (related_word-injective r s (head_same (related_word r) (related_word s) words more b)), tail_same (related_word r) (related_word s) words more b)
-same_behind (related r) as_map words more e b = absurd (let c : option_name (related r) ≡ option_name as_map = e in cc)
-same_behind as_map (limit n) words more e b = absurd (let c : option_name as_map ≡ option_name (limit n) = e in cc)
-same_behind as_map (hash l) words more e b = absurd (let c : option_name as_map ≡ option_name (hash l) = e in cc)
-same_behind as_map (related s) words more e b = absurd (let c : option_name as_map ≡ option_name (related s) = e in cc)
 same_behind as_map as_map words more e b = (refl, b)
+same_behind as_trig as_trig words more e b = (refl, b)
+same_behind (base i) (base j) words more e b = (ap base (head_same i j words more b), tail_same i j words more b)
+same_behind g h words more e b = absurd (let c : option_name g ≡ option_name h = e in cc)
 
 same_spelled : (g h : Given) (words more : List Text) → spelled_option g ++ words ≡ spelled_option h ++ more → (g ≡ h) × (words ≡ more)
 same_spelled g h words more e =
@@ -135,100 +128,55 @@ same_options given other rest more none not e =
 
 -- ---- an option that was read before
 
-name_there : (given : List Given) (g : Given) → IsNew (options_in given) g → ¬ (In (option_name g) (map option_name given))
+pub name_there : (given : List Given) (g : Given) → IsNew (chosen_by given) g → ¬ (In (option_name g) (map option_name given))
 name_there [] g new i = i
 name_there (limit m ∷ gs) (limit n) new i = cc
-name_there (limit m ∷ gs) (hash k) new (inl e) = cc
-name_there (limit m ∷ gs) (hash k) new (inr i) = name_there gs (hash k) new i
-name_there (limit m ∷ gs) (related r) new (inl e) = cc
-name_there (limit m ∷ gs) (related r) new (inr i) = name_there gs (related r) new i
-name_there (hash l ∷ gs) (limit n) new (inl e) = cc
-name_there (hash l ∷ gs) (limit n) new (inr i) = name_there gs (limit n) new i
 name_there (hash l ∷ gs) (hash k) new i = cc
-name_there (hash l ∷ gs) (related r) new (inl e) = cc
-name_there (hash l ∷ gs) (related r) new (inr i) = name_there gs (related r) new i
-name_there (related s ∷ gs) (limit n) new (inl e) = cc
-name_there (related s ∷ gs) (limit n) new (inr i) = name_there gs (limit n) new i
-name_there (related s ∷ gs) (hash k) new (inl e) = cc
-name_there (related s ∷ gs) (hash k) new (inr i) = name_there gs (hash k) new i
 name_there (related s ∷ gs) (related r) new i = cc
-name_there (limit m ∷ gs) as_map new (inl e) = cc
-name_there (limit m ∷ gs) as_map new (inr i) = name_there gs as_map new i
-name_there (hash l ∷ gs) as_map new (inl e) = cc
-name_there (hash l ∷ gs) as_map new (inr i) = name_there gs as_map new i
-name_there (related s ∷ gs) as_map new (inl e) = cc
-name_there (related s ∷ gs) as_map new (inr i) = name_there gs as_map new i
-name_there (as_map ∷ gs) (limit n) new (inl e) = cc
-name_there (as_map ∷ gs) (limit n) new (inr i) = name_there gs (limit n) new i
-name_there (as_map ∷ gs) (hash k) new (inl e) = cc
-name_there (as_map ∷ gs) (hash k) new (inr i) = name_there gs (hash k) new i
-name_there (as_map ∷ gs) (related r) new (inl e) = cc
-name_there (as_map ∷ gs) (related r) new (inr i) = name_there gs (related r) new i
 name_there (as_map ∷ gs) as_map new i = true≢false new
+name_there (as_trig ∷ gs) as_trig new i = true≢false new
+name_there (base j ∷ gs) (base i) new there = cc
+name_there (h ∷ gs) g new (inl e) = cc
+name_there (h ∷ gs) g new (inr i) = name_there gs g new i
 
-new_name : (given : List Given) (g : Given) → ¬ (In (option_name g) (map option_name given)) → IsNew (options_in given) g
+pub new_name : (given : List Given) (g : Given) → ¬ (In (option_name g) (map option_name given)) → IsNew (chosen_by given) g
 new_name [] (limit n) none = refl
 new_name [] (hash k) none = refl
 new_name [] (related r) none = refl
 new_name [] as_map none = refl
+new_name [] as_trig none = refl
+new_name [] (base i) none = refl
 new_name (limit m ∷ gs) (limit n) none = absurd (none (inl refl))
-new_name (limit m ∷ gs) (hash k) none = new_name gs (hash k) (λ i. none (inr i))
-new_name (limit m ∷ gs) (related r) none = new_name gs (related r) (λ i. none (inr i))
-new_name (hash l ∷ gs) (limit n) none = new_name gs (limit n) (λ i. none (inr i))
 new_name (hash l ∷ gs) (hash k) none = absurd (none (inl refl))
-new_name (hash l ∷ gs) (related r) none = new_name gs (related r) (λ i. none (inr i))
-new_name (related s ∷ gs) (limit n) none = new_name gs (limit n) (λ i. none (inr i))
-new_name (related s ∷ gs) (hash k) none = new_name gs (hash k) (λ i. none (inr i))
 new_name (related s ∷ gs) (related r) none = absurd (none (inl refl))
-new_name (limit m ∷ gs) as_map none = new_name gs as_map (λ i. none (inr i))
-new_name (hash l ∷ gs) as_map none = new_name gs as_map (λ i. none (inr i))
-new_name (related s ∷ gs) as_map none = new_name gs as_map (λ i. none (inr i))
-new_name (as_map ∷ gs) (limit n) none = new_name gs (limit n) (λ i. none (inr i))
-new_name (as_map ∷ gs) (hash k) none = new_name gs (hash k) (λ i. none (inr i))
-new_name (as_map ∷ gs) (related r) none = new_name gs (related r) (λ i. none (inr i))
 new_name (as_map ∷ gs) as_map none = absurd (none (inl refl))
+new_name (as_trig ∷ gs) as_trig none = absurd (none (inl refl))
+new_name (base j ∷ gs) (base i) none = absurd (none (inl refl))
+new_name (h ∷ gs) g none = new_name gs g (λ i. none (inr i))
 
 -- what a new option adds to those before it
-options_in-push : (given : List Given) (g : Given) → IsNew (options_in given) g → options_in (given ++ g ∷ []) ≡ with_option (options_in given) g
-options_in-push [] (limit n) new = refl
-options_in-push [] (hash k) new = refl
-options_in-push [] (related r) new = refl
-options_in-push [] as_map new = refl
-options_in-push (limit m ∷ gs) (limit n) new = cc
-options_in-push (limit m ∷ gs) (hash k) new = ap (λ o. with_option o (limit m)) (options_in-push gs (hash k) new)
-options_in-push (limit m ∷ gs) (related r) new = ap (λ o. with_option o (limit m)) (options_in-push gs (related r) new)
-options_in-push (hash l ∷ gs) (limit n) new = ap (λ o. with_option o (hash l)) (options_in-push gs (limit n) new)
-options_in-push (hash l ∷ gs) (hash k) new = cc
-options_in-push (hash l ∷ gs) (related r) new = ap (λ o. with_option o (hash l)) (options_in-push gs (related r) new)
-options_in-push (related s ∷ gs) (limit n) new = ap (λ o. with_option o (related s)) (options_in-push gs (limit n) new)
-options_in-push (related s ∷ gs) (hash k) new = ap (λ o. with_option o (related s)) (options_in-push gs (hash k) new)
-options_in-push (related s ∷ gs) (related r) new = cc
-options_in-push (limit m ∷ gs) as_map new = ap (λ o. with_option o (limit m)) (options_in-push gs as_map new)
-options_in-push (hash l ∷ gs) as_map new = ap (λ o. with_option o (hash l)) (options_in-push gs as_map new)
-options_in-push (related s ∷ gs) as_map new = ap (λ o. with_option o (related s)) (options_in-push gs as_map new)
-options_in-push (as_map ∷ gs) (limit n) new = ap (λ o. with_option o as_map) (options_in-push gs (limit n) new)
-options_in-push (as_map ∷ gs) (hash k) new = ap (λ o. with_option o as_map) (options_in-push gs (hash k) new)
-options_in-push (as_map ∷ gs) (related r) new = ap (λ o. with_option o as_map) (options_in-push gs (related r) new)
-options_in-push (as_map ∷ gs) as_map new = absurd (true≢false new)
+chosen_by-push : (given : List Given) (g : Given) → IsNew (chosen_by given) g → chosen_by (given ++ g ∷ []) ≡ with_option (chosen_by given) g
+chosen_by-push [] (limit n) new = refl
+chosen_by-push [] (hash k) new = refl
+chosen_by-push [] (related r) new = refl
+chosen_by-push [] as_map new = refl
+chosen_by-push [] as_trig new = refl
+chosen_by-push [] (base i) new = refl
+chosen_by-push (limit m ∷ gs) (limit n) new = cc
+chosen_by-push (hash l ∷ gs) (hash k) new = cc
+chosen_by-push (related s ∷ gs) (related r) new = cc
+chosen_by-push (as_map ∷ gs) as_map new = absurd (true≢false new)
+chosen_by-push (as_trig ∷ gs) as_trig new = absurd (true≢false new)
+chosen_by-push (base j ∷ gs) (base i) new = cc
+chosen_by-push (h ∷ gs) g new = ap (λ c. with_option c h) (chosen_by-push gs g new)
 
 distinct_before : (given more : List Given) (g : Given) → AreDistinct (map option_name (given ++ g ∷ more)) → ¬ (In (option_name g) (map option_name given))
 distinct_before [] more g d i = i
-distinct_before (h ∷ hs) more g d (inl e) = d.0 (there hs)
-  where
-    there : (xs : List Given) → In (option_name h) (map option_name (xs ++ g ∷ more))
-    there [] = inl (sym e)
-    there (x ∷ xs) = inr (there xs)
+distinct_before (h ∷ hs) more g d (inl e) = d.0 (subst (λ n. In n (map option_name (hs ++ g ∷ more))) e (In-map option_name (hs ++ g ∷ more) g (In-append_right hs (g ∷ more) g (inl refl))))
 distinct_before (h ∷ hs) more g d (inr i) = distinct_before hs more g d.1 i
 
 distinct_push : (given : List Given) (g : Given) → AreDistinct (map option_name given) → ¬ (In (option_name g) (map option_name given)) → AreDistinct (map option_name (given ++ g ∷ []))
-distinct_push [] g d none = (λ i. i, tt)
-distinct_push (h ∷ hs) g d none = (λ i. first hs d.0 (λ j. none (inr j)) i, distinct_push hs g d.1 (λ i. none (inr i)))
-  where
-    first : (xs : List Given) → ¬ (In (option_name h) (map option_name xs)) → ¬ (In (option_name g) (map option_name xs)) → ¬ (In (option_name h) (map option_name (xs ++ g ∷ [])))
-    first [] a b (inl e) = none (inl (sym e))
-    first [] a b (inr i) = i
-    first (x ∷ xs) a b (inl e) = a (inl e)
-    first (x ∷ xs) a b (inr i) = first xs (λ j. a (inr j)) (λ j. b (inr j)) i
+distinct_push given g d none = subst AreDistinct (sym (map-append option_name given (g ∷ []))) (AreDistinct-push (map option_name given) (option_name g) d none)
 
 -- ---- one option after the other
 
@@ -244,18 +192,18 @@ good_push given g all one h i = elim (In-append given (g ∷ []) h i) [ inl j �
     last (inr j) = absurd j
 
 -- the options that were read are these, and these words follow them
-pub record HasRead (words : List Text) (options : Options) (rest : List Text) : Type 0 where
+pub record HasRead (words : List Text) (options : Chosen) (rest : List Text) : Type 0 where
   pub given : List Given
   pub begins : BeginsWithOptions words given rest
-  pub options_are : options ≡ options_in given
+  pub chosen_is : options ≡ chosen_by given
 
-pub has_read-none : (words : List Text) → HasRead words (options_in []) words
-has_read-none words = record { given = []; begins = record { spelled = refl; once = tt; good = λ g i. absurd i }; options_are = refl }
+pub has_read-none : (words : List Text) → HasRead words (chosen_by []) words
+has_read-none words = record { given = []; begins = record { spelled = refl; once = tt; good = λ g i. absurd i }; chosen_is = refl }
 
-pub has_read-more : (words : List Text) (options new : Options) (rest behind : List Text) → HasRead words options rest → Reads options rest new behind → HasRead words new behind
+pub has_read-more : (words : List Text) (options new : Chosen) (rest behind : List Text) → HasRead words options rest → Reads options rest new behind → HasRead words new behind
 has_read-more words options new rest behind r a =
     let g = a.given in
-    let fresh : IsNew (options_in r.given) g = subst (λ o. IsNew o g) r.options_are a.may.new in
+    let fresh : IsNew (chosen_by r.given) g = subst (λ o. IsNew o g) r.chosen_is a.may.new in
     record {
       given = r.given ++ g ∷ [];
       begins = record {
@@ -263,11 +211,11 @@ has_read-more words options new rest behind r a =
         once = distinct_push r.given g r.begins.once (name_there r.given g fresh);
         good = good_push r.given g r.begins.good a.may.good;
       };
-      options_are = a.new_is ∙ ap (λ o. with_option o g) r.options_are ∙ sym (options_in-push r.given g fresh);
+      chosen_is = a.new_is ∙ ap (λ o. with_option o g) r.chosen_is ∙ sym (chosen_by-push r.given g fresh);
     }
 
 -- an option's name is next, and the words begin with no option that may come next
-pub no_options : (words : List Text) (options : Options) (rest : List Text) (name : OptionName) → HasRead words options rest → BeginsWithName rest name
+pub no_options : (words : List Text) (options : Chosen) (rest : List Text) (name : OptionName) → HasRead words options rest → BeginsWithName rest name
     → ((g : Given) (more : List Text) → ¬ (MayRead options g rest more)) → AreNoOptions words
 no_options words options [] name r b none other more not c = absurd b
 no_options words options (w ∷ ws) name r b none other more not c =
@@ -278,68 +226,35 @@ no_options words options (w ∷ ws) name r b none other more not c =
     next [] o e = subst BeginsNoOption (sym e) not name b
     next (g ∷ gs) o e = none g (flat_map spelled_option gs ++ more) (record {
       spelled = e ∙ spelled_first g gs more;
-      good = c.good g (subst (λ l. In g l) (sym o) (there r.given));
-      new = subst (λ p. IsNew p g) (sym r.options_are) (new_name r.given g (distinct_before r.given gs g (subst (λ l. AreDistinct (map option_name l)) o c.once)));
+      good = c.good g (subst (λ l. In g l) (sym o) (In-append_right r.given (g ∷ gs) g (inl refl)));
+      new = subst (λ p. IsNew p g) (sym r.chosen_is) (new_name r.given g (distinct_before r.given gs g (subst (λ l. AreDistinct (map option_name l)) o c.once)));
     })
-      where
-        there : (xs : List Given) → In g (xs ++ g ∷ gs)
-        there [] = inl refl
-        there (x ∷ xs) = inr (there xs)
 
 -- ---- the words of one option
 
 -- the option's words are in front of the rest
-pub reads-front : (old new : Options) (words front rest : List Text) → Adds old new front → words ≡ front ++ rest → Reads old words new rest
+pub reads-front : (old new : Chosen) (words front rest : List Text) → Adds old new front → words ≡ front ++ rest → Reads old words new rest
 reads-front old new words front rest a e =
     record { given = a.given; may = record { spelled = e ∙ ap (λ ws. ws ++ rest) (sym a.follows.spelled); good = a.follows.good; new = a.follows.new }; new_is = a.new_is }
 
 -- an option that the words begin with has the name that they begin with
-read_name : (options : Options) (name : OptionName) (g : Given) (words more : List Text) → BeginsWithName words name → MayRead options g words more → option_name g ≡ name
+read_name : (options : Chosen) (name : OptionName) (g : Given) (words more : List Text) → BeginsWithName words name → MayRead options g words more → option_name g ≡ name
 read_name options name g [] more b m = absurd b
 read_name options name g (w ∷ ws) more b m =
     name_word-injective (option_name g) name (sym (head_same w (name_word (option_name g)) ws (option_value g ++ more) m.spelled) ∙ b)
 
 -- the words behind the name are its value and the rest
-read_value : (options : Options) (g : Given) (w : Text) (ws more : List Text) → MayRead options g (w ∷ ws) more → ws ≡ option_value g ++ more
+read_value : (options : Chosen) (g : Given) (w : Text) (ws more : List Text) → MayRead options g (w ∷ ws) more → ws ≡ option_value g ++ more
 read_value options g w ws more m = tail_same w (name_word (option_name g)) ws (option_value g ++ more) m.spelled
 
-is_map : (g : Given) → option_name g ≡ Map → g ≡ as_map
-is_map (limit n) e = cc
-is_map (hash k) e = cc
-is_map (related r) e = cc
-is_map as_map e = refl
-
-value_of : (g : Given) → ¬ (option_name g ≡ Map) → (v : Text) × (option_value g ≡ v ∷ [])
-value_of (limit n) other = (numeral n, refl)
-value_of (hash k) other = (hash_word k, refl)
-value_of (related r) other = (related_word r, refl)
-value_of as_map other = absurd (other refl)
-
--- no map may follow
-pub no_map : (options : Options) (words : List Text) (g : Given) (more : List Text) → BeginsWithName words Map → ¬ (MayFollow options as_map (name_word Map ∷ [])) → ¬ (MayRead options g words more)
-no_map options words g more b none m =
-    let e = is_map g (read_name options Map g words more b m) in
-    none (record { spelled = refl; good = tt; new = subst (IsNew options) e m.new })
-
--- an option with a value has a word behind its name
-pub no_value : (options : Options) (name : OptionName) (w : Text) (g : Given) (more : List Text) → BeginsWithName (w ∷ []) name → ¬ (name ≡ Map) → ¬ (MayRead options g (w ∷ []) more)
-no_value options name w g more b other m =
-    let n = read_name options name g (w ∷ []) more b m in
-    let v = value_of g (λ e. other (sym n ∙ e)) in
-    not_empty v.0 more (read_value options g w [] more m ∙ ap (λ ws. ws ++ more) v.1)
-
--- and that word is its value
-pub not_with : (options : Options) (name : OptionName) (w value : Text) (rest : List Text) (g : Given) (more : List Text) → BeginsWithName (w ∷ value ∷ rest) name → ¬ (name ≡ Map)
-    → ¬ (MayFollow options g (name_word name ∷ value ∷ [])) → ¬ (MayRead options g (w ∷ value ∷ rest) more)
-not_with options name w value rest g more b other none m =
-    let n = read_name options name g (w ∷ value ∷ rest) more b m in
-    let v = value_of g (λ e. other (sym n ∙ e)) in
-    let same : value ≡ v.0 = head_same value v.0 rest more (read_value options g w (value ∷ rest) more m ∙ ap (λ ws. ws ++ more) v.1) in
-    none (record { spelled = (λ i. name_word (n i) ∷ v.1 i) ∙ ap (λ x. name_word name ∷ x ∷ []) (sym same); good = m.good; new = m.new })
-
--- no option is the word of the map and a value
-pub no_map_with : (options : Options) (g : Given) (value : Text) → ¬ (MayFollow options g (name_word Map ∷ value ∷ []))
-no_map_with options g value m =
-    let n = name_word-injective (option_name g) Map (head_same (name_word (option_name g)) (name_word Map) (option_value g) (value ∷ []) m.spelled) in
-    let behind : option_value g ≡ value ∷ [] = tail_same (name_word (option_name g)) (name_word Map) (option_value g) (value ∷ []) m.spelled in
-    not_empty value [] (subst (λ h. option_value h ≡ value ∷ []) (is_map g n) behind)
+-- an option that is spelled as a base is one
+pub base_only : {A : Type 0} (chosen : Chosen) (value : Text) (o : Option A) → IfNone o ((iri : Text) → ¬ (MayFollow chosen (base iri) (name_word Base ∷ value ∷ [])))
+    → IfNone o ((given : Given) → ¬ (MayFollow chosen given (name_word Base ∷ value ∷ [])))
+base_only chosen value (Some x) none = tt
+base_only chosen value None none = only
+  where
+    only : (given : Given) → ¬ (MayFollow chosen given (name_word Base ∷ value ∷ []))
+    only (base iri) m = none iri m
+    only g m =
+        let named : option_name g ≡ Base = name_word-injective (option_name g) Base (head_same (name_word (option_name g)) (name_word Base) (option_value g) (value ∷ []) m.spelled) in
+        cc

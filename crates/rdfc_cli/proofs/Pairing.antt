@@ -1,11 +1,10 @@
 -- The text of a comparison, from the pairs of its verdict.
-use Rattle.std.proofs.Common.{◌≡◌, ℕ, zero, suc, ◌+◌, ◌<◌, ◌++◌, List, [], ◌∷◌, codes, map, length, take, get_or, slice_get, inl, inr, None, Option, Some, refl, sym, ap, ◌∙◌, subst, arith}
-use Rattle.std.proofs.lemmas.List.{flat_map_more, take_more}
+use Rattle.std.proofs.Common.{◌≡◌, ℕ, ◌+◌, ◌<◌, ◌++◌, List, [], ◌∷◌, codes, map, length, take, get_or, slice_get, inl, inr, None, Some, refl, sym, ap, ◌∙◌, subst}
+use Rattle.std.proofs.lemmas.List.{flat_map_more, get_or_default, take_more}
 use Rattle.std.proofs.lemmas.Option.{get_or_from_slice_get}
 use Rattle.std.specs.Prelude.{flat_map}
 use Rattle.rdf_terms.specs.Lists.{Text, In, numbers_below}
 use Rattle.rdf_terms.specs.Dataset.{Dataset}
-use Rattle.rdf_terms.specs.Isomorphism.{Relabelling}
 use Rattle.rdf_terms.specs.declared.term.Label.{Label}
 use Rattle.rdf_terms.specs.declared.term.Label.TheVariants.{Anonymous}
 use Rattle.rdf_terms.proofs.Membership.{from_In-map}
@@ -43,19 +42,9 @@ pairs_below D E pairs b p i =
     let partner : σ f.0 < E.nodes = subst (λ k. σ f.0 < k) (sym b.carries.nodes) (b.relabelling.to_node f.0 node) in
     subst (λ q. (q.0 < D.nodes) × (q.1 < E.nodes)) (sym f.2) (node, partner)
 
-pub get_or_any : {A : Type 0} (xs : List A) (i : ℕ) (x y : A) → i < length xs → get_or xs i x ≡ get_or xs i y
-get_or_any [] i x y h = absurd (omega arith)
-get_or_any (a ∷ xs) zero x y h = refl
-get_or_any (a ∷ xs) (suc i) x y h = get_or_any xs i x y (omega arith)
-
-pub pair_there : (pairs : List (ℕ × ℕ)) (i : ℕ) (d : ℕ × ℕ) → i < length pairs → In (get_or pairs i d) pairs
-pair_there [] i d h = absurd (omega arith)
-pair_there (p ∷ ps) zero d h = inl refl
-pair_there (p ∷ ps) (suc i) d h = inr (pair_there ps i d (omega arith))
-
 -- the label at a place of the list
 label_in-get_or : (labels : List Label) (n : ℕ) (label : Label) → n < length labels → label ≡ get_or labels n label → label_text label ≡ label_in labels n
-label_in-get_or labels n label h e = ap label_text (e ∙ get_or_any labels n label (Anonymous 0) h)
+label_in-get_or labels n label h e = ap label_text (e ∙ get_or_default labels n label (Anonymous 0) h)
 
 -- the line of one pair more
 pub one_more_pair : (labels others : List Label) (pairs : List (ℕ × ℕ)) (i : ℕ) (p : ℕ × ℕ) (a b : Label) (out new : Text) → i < length pairs → p ≡ get_or pairs i p → p.0 < length labels → p.1 < length others → a ≡ get_or labels p.0 a → b ≡ get_or others p.1 b

@@ -3,14 +3,13 @@ use Rattle.std.proofs.Common.{◌≡◌, ℕ, ◌+◌, ◌<◌, ◌≤◌, List,
 use Rattle.std.proofs.lemmas.List.{take_all, take-append-le}
 use Rattle.std.proofs.KnownBytes.{Consumes-trans}
 use Rattle.std.specs.Io.KnownBytes.{Consumes, IsAtEnd}
-use Rattle.nquads_reader.specs.Pieces.{Reader, StandsFor}
-use Rattle.rdf_terms.specs.Document.{Document}
-use Rattle.rdfc_cli.specs.Answers.{Accepts, FileSeen, IsCause}
+use Rattle.rdf_terms.specs.Document.{Document, statements}
+use Rattle.rdfc_cli.specs.Answers.{States, Accepts, FileSeen, IsCause}
 use Rattle.rdfc_cli.specs.FileFaults.{IsFed, content_of, IsFileFault, IsTextFault}
+use Rattle.rdfc_cli.specs.Words.{Syntax}
 use Rattle.rdfc_cli.specs.declared.files.TheConstants.{FILE_LIMIT}
 use Rattle.rdfc_cli.specs.declared.files.FileFault.{FileFault}
 use Rattle.rdfc_cli.specs.declared.files.FileFault.TheVariants.{Failed, Refused, NoMemory}
-use Rattle.rdfc_cli.specs.declared.status.Cause.{Cause}
 
 -- a started file, of which nothing was read
 pub began : (told rest : Option (List ℕ)) (bytes : List ℕ) → rest ≡ told → bytes ≡ [] → Consumes told rest bytes
@@ -35,50 +34,57 @@ longer None rest bytes limit p l = tt
 longer (Some t) None bytes limit p l = absurd p
 longer (Some t) (Some r) bytes limit p l = rw p (omega (arith, length-append bytes r))
 
--- the reader was fed what was read of a file so far, which is so many bytes
-pub record HasFed (told rest : Option (List ℕ)) (reader : Reader) (total : ℕ) : Type 0 where
-  pub bytes : List ℕ
-  pub consumed : Consumes told rest bytes
-  pub stands : StandsFor reader bytes
-  pub counted : total ≡ length bytes
+module _ {I : Type 0} (Holds : I → List ℕ → Type 0) where
+  -- the intake holds what was read of a file so far, which is so many bytes
+  pub record HasFed (told rest : Option (List ℕ)) (intake : I) (total : ℕ) : Type 0 where
+    pub bytes : List ℕ
+    pub consumed : Consumes told rest bytes
+    pub holds : Holds intake bytes
+    pub counted : total ≡ length bytes
 
-pub fed_nothing : (told rest : Option (List ℕ)) (reader : Reader) (total : ℕ) → rest ≡ told → StandsFor reader [] → total ≡ 0 → HasFed told rest reader total
-fed_nothing told rest reader total r s n = record { bytes = []; consumed = began told rest [] r refl; stands = s; counted = n }
+  pub fed_nothing : (told rest : Option (List ℕ)) (intake : I) (total : ℕ) → rest ≡ told → Holds intake [] → total ≡ 0 → HasFed told rest intake total
+  fed_nothing told rest intake total r h n = record { bytes = []; consumed = began told rest [] r refl; holds = h; counted = n }
 
-pub fed_more : (told rest left : Option (List ℕ)) (old new : Reader) (total now : ℕ) (piece : List ℕ) → HasFed told rest old total → Consumes rest left piece
-    → ((bytes : List ℕ) → StandsFor old bytes → StandsFor new (bytes ++ piece)) → now ≡ total + length piece → HasFed told left new now
-fed_more told rest left old new total now piece fed consumed feeds n = record {
-  bytes = fed.bytes ++ piece;
-  consumed = grown told rest left fed.bytes piece (fed.bytes ++ piece) fed.consumed consumed refl;
-  stands = feeds fed.bytes fed.stands;
-  counted = n ∙ ap (λ k. k + length piece) fed.counted ∙ sym (length-append fed.bytes piece);
-}
+  pub fed_more : (told rest left : Option (List ℕ)) (old new : I) (total now : ℕ) (piece : List ℕ) → HasFed told rest old total → Consumes rest left piece
+      → ((bytes : List ℕ) → Holds old bytes → Holds new (bytes ++ piece)) → now ≡ total + length piece → HasFed told left new now
+  fed_more told rest left old new total now piece fed consumed feeds n = record {
+    bytes = fed.bytes ++ piece;
+    consumed = grown told rest left fed.bytes piece (fed.bytes ++ piece) fed.consumed consumed refl;
+    holds = feeds fed.bytes fed.holds;
+    counted = n ∙ ap (λ k. k + length piece) fed.counted ∙ sym (length-append fed.bytes piece);
+  }
 
-pub fed_whole : (told rest left : Option (List ℕ)) (reader : Reader) (total : ℕ) (piece : List ℕ) → HasFed told rest reader total → Consumes rest left piece → length piece ≡ 0 → IsAtEnd left → total ≤ FILE_LIMIT → IsFed told reader
-fed_whole told rest left reader total piece fed consumed none at_end within = record {
-  bytes = fed.bytes;
-  whole = ended told rest left fed.bytes piece fed.consumed consumed none at_end;
-  within = omega (arith, fed.counted);
-  stands = fed.stands;
-}
+  pub fed_whole : (told rest left : Option (List ℕ)) (intake : I) (total : ℕ) (piece : List ℕ) → HasFed told rest intake total → Consumes rest left piece → length piece ≡ 0 → IsAtEnd left → total ≤ FILE_LIMIT → IsFed Holds told intake
+  fed_whole told rest left intake total piece fed consumed none at_end within = record {
+    bytes = fed.bytes;
+    whole = ended told rest left fed.bytes piece fed.consumed consumed none at_end;
+    within = omega (arith, fed.counted);
+    holds = fed.holds;
+  }
 
--- what the bytes that were fed give is what the file gives
+-- what the bytes that were read give is what the file gives
 
 if_told : (told : Option (List ℕ)) (bytes : List ℕ) (P : List ℕ → Type 0) → IfSome told (λ all. bytes ≡ all) → P bytes → IfSome told P
 if_told None bytes P h p = tt
 if_told (Some all) bytes P h p = subst P h p
 
-pub accepted_as_told : (told : Option (List ℕ)) (bytes : List ℕ) → IfSome told (λ all. bytes ≡ all) → (r : Result Document FileFault)
-    → IfOk r (λ d. Accepts bytes (content_of d)) → IfOk r (λ d. IfSome told (λ all. Accepts all (content_of d)))
-accepted_as_told told bytes whole (Ok d) h = if_told told bytes (λ all. Accepts all (content_of d)) whole h
-accepted_as_told told bytes whole (Err e) h = tt
+pub ok_as_told : {T E : Type 0} (told : Option (List ℕ)) (bytes : List ℕ) (P : List ℕ → T → Type 0) → IfSome told (λ all. bytes ≡ all) → (r : Result T E) → IfOk r (P bytes) → IfOk r (λ x. IfSome told (λ all. P all x))
+ok_as_told told bytes P whole (Ok x) h = if_told told bytes (λ all. P all x) whole h
+ok_as_told told bytes P whole (Err e) h = tt
 
-pub fault_as_told : (file : FileSeen) (bytes : List ℕ) → IfSome file.told (λ all. bytes ≡ all) → (r : Result Document FileFault)
-    → IfErr r (IsTextFault bytes) → IfErr r (IsFileFault file)
-fault_as_told file bytes whole (Ok d) h = tt
+pub fault_as_told : {T : Type 0} (file : FileSeen) (bytes : List ℕ) → IfSome file.told (λ all. bytes ≡ all) → (r : Result T FileFault)
+    → IfErr r (IsTextFault file.syntax bytes) → IfErr r (IsFileFault file)
+fault_as_told file bytes whole (Ok x) h = tt
 fault_as_told file bytes whole (Err Failed) h = absurd h
-fault_as_told file bytes whole (Err (Refused cause)) h = if_told file.told bytes (λ all. IsCause all cause) whole h
+fault_as_told file bytes whole (Err (Refused cause)) h = if_told file.told bytes (λ all. IsCause file.syntax all cause) whole h
 fault_as_told file bytes whole (Err NoMemory) h = tt
+
+-- a dataset of a document that is stated, as far as it is told
+pub accepted_as_told : (told : Option (List ℕ)) (syntax : Syntax) (parsed : Document) (r : Result Document FileFault) → IfSome told (λ bytes. States syntax bytes parsed.labels (statements parsed))
+    → ((bytes : List ℕ) → States syntax bytes parsed.labels (statements parsed) → IfOk r (λ d. Accepts syntax bytes (content_of d))) → IfOk r (λ d. IfSome told (λ bytes. Accepts syntax bytes (content_of d)))
+accepted_as_told told syntax parsed (Err e) stated accepts = tt
+accepted_as_told None syntax parsed (Ok d) stated accepts = tt
+accepted_as_told (Some bytes) syntax parsed (Ok d) stated accepts = accepts bytes stated
 
 -- a whole buffer after a write through a slice of it
 pub whole : (n : ℕ) (a rest : List ℕ) → length a ≡ n → take n (a ++ rest) ≡ a

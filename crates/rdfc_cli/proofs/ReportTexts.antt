@@ -1,13 +1,13 @@
 -- The lines of a report, one after the other, and the text of a command.
-use Rattle.std.proofs.Common.{◌≡◌, ℕ, ◌+◌, ◌<◌, List, [], ◌∷◌, ◌++◌, Option, Some, None, codes, length, get_or, slice_get, take, refl, sym, ap, ◌∙◌, subst}
+use Rattle.std.proofs.Common.{◌≡◌, ℕ, ◌+◌, ◌<◌, List, ◌++◌, Option, Some, None, codes, length, get_or, slice_get, take, sym, ap, ◌∙◌, subst}
 use Rattle.std.specs.Prelude.{flat_map}
 use Rattle.std.proofs.lemmas.List.{take_more, flat_map_more}
 use Rattle.std.proofs.lemmas.Option.{get_or_from_slice_get}
 use Rattle.rdf_terms.specs.Lists.{Text, AreDistinct}
 use Rattle.rdf_terms.specs.Numeral.{numeral}
 use Rattle.rdf_terms.specs.Dataset.{Dataset}
-use Rattle.rdf_terms.specs.Document.{Document, dataset, label_at}
-use Rattle.rdf_terms.specs.CanonicalForm.{identifier_at, name_or_nothing, issued_names}
+use Rattle.rdf_terms.specs.Document.{Document, dataset}
+use Rattle.rdf_terms.specs.CanonicalForm.{identifier_at, name_or_nothing}
 use Rattle.rdf_terms.specs.declared.term.Prefix.TheVariants.{Canonical}
 use Rattle.rdf_terms.specs.declared.term.Label.{Label}
 use Rattle.rdf_terms.specs.declared.term.Label.TheVariants.{Anonymous}
@@ -20,7 +20,7 @@ use Rattle.canon_core.specs.Canonical.{IsCanon, IsFirstUnsettled}
 use Rattle.canon_core.specs.declared.canon.Canon.{Canon}
 use Rattle.ndegree_hash.specs.declared.tie.Tie.{Tie}
 use Rattle.rdfc_cli.specs.Answers.{Finds, IsRunText, hashing_of}
-use Rattle.rdfc_cli.specs.Reports.{label_text, label_in, spaced_label, map_line}
+use Rattle.rdfc_cli.specs.Reports.{label_text, label_in, map_line}
 use Rattle.rdfc_cli.specs.declared.options.Settings.{Settings}
 use Rattle.rdfc_cli.specs.declared.output.Output.{Output}
 

@@ -7,9 +7,11 @@ use Rattle.rdf_terms.specs.Dataset.{Dataset, IsValid}
 use Rattle.rdf_terms.specs.declared.term.Label.{Label}
 use Rattle.rdf_terms.specs.declared.term.Quad.{Quad}
 use Rattle.outside.specs.Faults.{Rose}
-use Rattle.nquads_reader.specs.Document.{IsNQuads, IsCauseOf}
+use Rattle.nquads_reader.specs.Document.{IsNQuads, IsCauseOf as IsLineCauseOf}
 use Rattle.nquads_reader.specs.declared.TheConstants.{MAX_QUADS}
 use Rattle.nquads_reader.specs.declared.fault.ReadFault.TheVariants.{NotUtf8 as NotUtf8Fault, BadLine as BadLineFault, RelativeIri as RelativeIriFault, TooManyQuads as TooManyQuadsFault}
+use Rattle.trig_reader.specs.Document.{IsTriG, IsCauseOf as IsTriGCauseOf}
+use Rattle.trig_reader.specs.declared.fault.TrigFault.TheVariants.{NotUtf8 as NotUtf8Token, BadTrig as BadToken, UnknownPrefix as UnknownPrefixToken, NoBase as NoBaseToken, TooManyQuads as TooManyTriGQuads}
 use Rattle.canon_model.specs.Hashing.{Hashing}
 use Rattle.canon_model.specs.Meaning.{meaning}
 use Rattle.canon_model.specs.JoinedTies.{IsSettled}
@@ -21,14 +23,15 @@ use Rattle.load_document.specs.LoadDocument.{load_document}
 use Rattle.rdfc_cli.specs.Puts.{IsCutShort}
 use Rattle.rdfc_cli.specs.Leaning.{IsLeaning, HasGraphName, IsPastMaps}
 use Rattle.rdfc_cli.specs.Reports.{IsTextOf, ArePartnerLines, IsSummary}
-use Rattle.rdfc_cli.specs.Words.{Command}
+use Rattle.rdfc_cli.specs.Words.{Command, Syntax}
 use Rattle.rdfc_cli.specs.Words.Command.{on_file, compare, lean, load}
+use Rattle.rdfc_cli.specs.Words.Syntax.{nquads, trig}
 use Rattle.rdfc_cli.specs.declared.files.TheConstants.{FILE_LIMIT}
 use Rattle.rdfc_cli.specs.declared.options.Settings.{Settings}
 use Rattle.rdfc_cli.specs.declared.status.Status.{Status}
 use Rattle.rdfc_cli.specs.declared.status.Status.TheVariants.{Done, Different, Unsettled, Refused, ReadFault, WriteFault, WorkLimit, NoMemory, Undecided, SearchLimit}
 use Rattle.rdfc_cli.specs.declared.status.Cause.{Cause}
-use Rattle.rdfc_cli.specs.declared.status.Cause.TheVariants.{TooLong, NotUtf8, BadLine, RelativeIri, TooManyQuads, NotOneGraph}
+use Rattle.rdfc_cli.specs.declared.status.Cause.TheVariants.{TooLong, NotUtf8, BadLine, RelativeIri, BadTrig, UnknownPrefix, NoBase, TooManyQuads, NotOneGraph}
 
 -- ---- files
 
@@ -37,53 +40,68 @@ pub record Content : Type 0 where
   pub dataset : Dataset
   pub labels : List Label
 
--- the bytes are within the limit and in the grammar, and state these distinct quads, no more than the limit, over nodes with these labels
-pub record States (bytes : Text) (labels : List Label) (stated : List Statement) : Type 0 where
+-- the bytes are a document in the syntax, which states these distinct quads over nodes with these labels
+abbrev pub IsDocumentIn : Syntax → Text → List Label → List Statement → Type 0
+IsDocumentIn nquads bytes labels stated = IsNQuads bytes labels stated
+IsDocumentIn (trig base) bytes labels stated = IsTriG bytes base labels stated
+
+-- the bytes are within the limit and such a document, and state no more quads than the limit
+pub record States (syntax : Syntax) (bytes : Text) (labels : List Label) (stated : List Statement) : Type 0 where
   pub within : length bytes ≤ FILE_LIMIT
-  pub reads : IsNQuads bytes labels stated
+  pub reads : IsDocumentIn syntax bytes labels stated
   pub few : length stated ≤ MAX_QUADS
 
 -- a file with these bytes is read, and the dataset has exactly its quads, in any order
-pub record Accepts (bytes : Text) (content : Content) : Type 0 where
+pub record Accepts (syntax : Syntax) (bytes : Text) (content : Content) : Type 0 where
   pub stated : List Statement
-  pub states : States bytes content.labels stated
+  pub states : States syntax bytes content.labels stated
   pub nodes_are : content.dataset.nodes ≡ length content.labels
   pub quads_are : Permutes stated content.dataset.statements
   pub valid : IsValid content.dataset
 
--- why the bytes of a file are not accepted; that a dataset is no graph is no matter of its bytes
-abbrev pub IsCause : Text → Cause → Type 0
-IsCause bytes TooLong = FILE_LIMIT < length bytes
-IsCause bytes (NotUtf8 line) = (length bytes ≤ FILE_LIMIT) × IsCauseOf bytes (NotUtf8Fault line)
-IsCause bytes (BadLine line) = (length bytes ≤ FILE_LIMIT) × IsCauseOf bytes (BadLineFault line)
-IsCause bytes (RelativeIri line) = (length bytes ≤ FILE_LIMIT) × IsCauseOf bytes (RelativeIriFault line)
-IsCause bytes TooManyQuads = (length bytes ≤ FILE_LIMIT) × IsCauseOf bytes TooManyQuadsFault
-IsCause bytes NotOneGraph = ⊥
+-- why bytes are no document in the syntax, or one with too many quads
+abbrev pub IsReaderCause : Syntax → Text → Cause → Type 0
+IsReaderCause nquads bytes (NotUtf8 line) = IsLineCauseOf bytes (NotUtf8Fault line)
+IsReaderCause nquads bytes (BadLine line) = IsLineCauseOf bytes (BadLineFault line)
+IsReaderCause nquads bytes (RelativeIri line) = IsLineCauseOf bytes (RelativeIriFault line)
+IsReaderCause nquads bytes TooManyQuads = IsLineCauseOf bytes TooManyQuadsFault
+IsReaderCause (trig base) bytes (NotUtf8 line) = IsTriGCauseOf bytes base (NotUtf8Token line)
+IsReaderCause (trig base) bytes (BadTrig line) = IsTriGCauseOf bytes base (BadToken line)
+IsReaderCause (trig base) bytes (UnknownPrefix line) = IsTriGCauseOf bytes base (UnknownPrefixToken line)
+IsReaderCause (trig base) bytes (NoBase line) = IsTriGCauseOf bytes base (NoBaseToken line)
+IsReaderCause (trig base) bytes TooManyQuads = IsTriGCauseOf bytes base TooManyTriGQuads
+IsReaderCause syntax bytes cause = ⊥
 
--- the file as it is told, and the count of failed calls with its word, before and after the run
+-- why the bytes of a file are not accepted; that a dataset is no graph is no matter of its bytes
+abbrev pub IsCause : Syntax → Text → Cause → Type 0
+IsCause syntax bytes TooLong = FILE_LIMIT < length bytes
+IsCause syntax bytes cause = (length bytes ≤ FILE_LIMIT) × IsReaderCause syntax bytes cause
+
+-- the syntax that the file is read in, the file as it is told, and the count of failed calls with its word, before and after the run
 pub record FileSeen : Type 0 where
+  pub syntax : Syntax
   pub told : Option Text
   pub faults : ℕ
   pub faults_now : ℕ
 
 -- the file of this name on a shelf, by what the shelf tells and counts
-abbrev pub seen : {S : Type 0} → (S → Text → Option Text) → (S → Text → ℕ) → S → S → Text → FileSeen
-seen told faults old new name = record { told = told old name; faults = faults old name; faults_now = faults new name }
+abbrev pub seen : {S : Type 0} → Syntax → (S → Text → Option Text) → (S → Text → ℕ) → S → S → Text → FileSeen
+seen syntax told faults old new name = record { syntax = syntax; told = told old name; faults = faults old name; faults_now = faults new name }
 
 -- the file is accepted and this holds of what it says, as far as it is told
 abbrev pub IfAccepted : FileSeen → (Content → Type 0) → Type 0
-IfAccepted file Fact = IfSome file.told (λ bytes. (content : Content) × Accepts bytes content × Fact content)
+IfAccepted file Fact = IfSome file.told (λ bytes. (content : Content) × Accepts file.syntax bytes content × Fact content)
 
 -- the document of the number is accepted as the bytes of a file are, and this holds of what it says
 abbrev pub IfLoaded : ℕ → (Content → Type 0) → Type 0
-IfLoaded n Fact = (content : Content) × Accepts (load_document n) content × Fact content
+IfLoaded n Fact = (content : Content) × Accepts nquads (load_document n) content × Fact content
 
 -- each of two files is accepted with this content, as far as it is told, and this holds of both
 pub record AreBothAccepted (first second : FileSeen) (Fact : Content → Content → Type 0) : Type 0 where
   pub content : Content
   pub other : Content
-  pub accepts : IfSome first.told (λ bytes. Accepts bytes content)
-  pub accepts_other : IfSome second.told (λ bytes. Accepts bytes other)
+  pub accepts : IfSome first.told (λ bytes. Accepts first.syntax bytes content)
+  pub accepts_other : IfSome second.told (λ bytes. Accepts second.syntax bytes other)
   pub fact : Fact content other
 
 -- ---- the canonical run of a dataset
@@ -151,7 +169,7 @@ IsNoGraph file (load n) = ⊥
 -- the file at this place is refused for what its bytes are, or for what the command wants of its dataset
 abbrev pub IsRefused : (Text → FileSeen) → Command → ℕ → Cause → Type 0
 IsRefused file command place cause =
-    IsOfFile file command place (λ seen. IfSome seen.told (λ bytes. IsCause bytes cause)) ⊎ ((cause ≡ NotOneGraph) × (place ≡ 0) × IsNoGraph file command)
+    IsOfFile file command place (λ seen. IfSome seen.told (λ bytes. IsCause seen.syntax bytes cause)) ⊎ ((cause ≡ NotOneGraph) × (place ≡ 0) × IsNoGraph file command)
 
 -- the first dataset of the command whose counted run passes the limit has this place
 abbrev pub IsPastLimit : (Text → FileSeen) → Command → Settings → ℕ → Type 0

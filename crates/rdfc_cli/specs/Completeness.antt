@@ -17,7 +17,7 @@ use Rattle.rdfc_cli.specs.declared.status.Status.TheVariants.{Done, NoMemory}
 pub record IsFine (file : FileSeen) (settings : Settings) (content : Content) : Type 0 where
   pub bytes : Text
   pub told : file.told ≡ Some bytes
-  pub accepts : Accepts bytes content
+  pub accepts : Accepts file.syntax bytes content
   pub within : IsWithin settings content.dataset
   pub no_read_failed : ¬ (Rose file.faults file.faults_now)
 
@@ -47,7 +47,7 @@ pub record IsFineGraph (file : FileSeen) (settings : Settings) : Type 0 where
   pub bytes : Text
   pub told : file.told ≡ Some bytes
   pub content : Content
-  pub accepts : Accepts bytes content
+  pub accepts : Accepts file.syntax bytes content
   pub graph : IsGraph content.dataset.statements
   pub within : (image : List Statement) → ¬ (IsPastSearch content.dataset.statements image settings.limit)
   pub no_read_failed : ¬ (Rose file.faults file.faults_now)

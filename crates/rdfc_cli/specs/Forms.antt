@@ -1,6 +1,6 @@
 -- What is kept of a file that is compared: its canonical run, and what it calls its nodes.
 use Rattle.std.specs.Prelude.{◌≡◌, ℕ, ◌<◌, ◌⊎◌, List, length, Option, Some, None}
-use Rattle.rdf_terms.specs.Lists.{Text, In}
+use Rattle.rdf_terms.specs.Lists.{In}
 use Rattle.rdf_terms.specs.Dataset.{Dataset}
 use Rattle.rdf_terms.specs.declared.pair_list.Bijection.{Bijection}
 use Rattle.rdf_terms.specs.declared.term.Label.{Label}

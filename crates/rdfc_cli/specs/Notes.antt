@@ -10,7 +10,7 @@ use Rattle.rdfc_cli.specs.declared.files.TheConstants.{FILE_LIMIT}
 use Rattle.rdfc_cli.specs.declared.status.Status.{Status}
 use Rattle.rdfc_cli.specs.declared.status.Status.TheVariants.{Done, Different, Usage, Unsettled, Refused, ReadFault, WriteFault, WorkLimit, NoMemory, Undecided, SearchLimit}
 use Rattle.rdfc_cli.specs.declared.status.Cause.{Cause}
-use Rattle.rdfc_cli.specs.declared.status.Cause.TheVariants.{TooLong, NotUtf8, BadLine, RelativeIri, TooManyQuads, NotOneGraph}
+use Rattle.rdfc_cli.specs.declared.status.Cause.TheVariants.{TooLong, NotUtf8, BadLine, RelativeIri, BadTrig, UnknownPrefix, NoBase, TooManyQuads, NotOneGraph}
 
 -- what is said of a refused file, behind its word
 abbrev pub cause_text : Cause → Text
@@ -18,6 +18,9 @@ cause_text TooLong = codes ": longer than " ++ (numeral FILE_LIMIT ++ codes " by
 cause_text (NotUtf8 line) = codes ":" ++ (numeral line ++ codes ": not UTF-8")
 cause_text (BadLine line) = codes ":" ++ (numeral line ++ codes ": not an N-Quads line")
 cause_text (RelativeIri line) = codes ":" ++ (numeral line ++ codes ": IRI without a scheme")
+cause_text (BadTrig line) = codes ":" ++ (numeral line ++ codes ": not TriG")
+cause_text (UnknownPrefix line) = codes ":" ++ (numeral line ++ codes ": unknown prefix")
+cause_text (NoBase line) = codes ":" ++ (numeral line ++ codes ": relative IRI without a base")
 cause_text TooManyQuads = codes ": more than " ++ (numeral MAX_QUADS ++ codes " quads")
 cause_text NotOneGraph = codes ": a quad has a graph name"
 

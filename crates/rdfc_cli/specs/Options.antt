@@ -1,48 +1,67 @@
 -- The options that were read so far, each at most once.
-use Rattle.std.specs.Prelude.{◌≡◌, ℕ, List, [], ◌∷◌, ◌++◌, Bool, true, false, Option, Some, None, flat_map, map}
+use Rattle.std.specs.Prelude.{◌≡◌, ℕ, List, [], ◌∷◌, ◌++◌, Bool, true, false, Option, Some, None, option_copied, flat_map, map, if◌then◌else◌}
 use Rattle.rdf_terms.specs.Lists.{Text, In, AreDistinct}
-use Rattle.rdfc_cli.specs.Words.{Command, Given, name_word, spelled_option, option_name, HasGoodValue, given_limit, given_hash, given_related, given_map}
+use Rattle.canon_model.specs.declared.profile.HashKind.{HashKind}
+use Rattle.canon_model.specs.declared.profile.Related.{Related as Reading}
+use Rattle.rdfc_cli.specs.Words.{Command, Given, Syntax, name_word, spelled_option, option_name, HasGoodValue, given_limit, given_hash, given_related, given_map, given_trig, given_base}
 use Rattle.rdfc_cli.specs.Words.Command.{on_file, compare, lean, load}
-use Rattle.rdfc_cli.specs.Words.Given.{limit, hash, related, as_map}
+use Rattle.rdfc_cli.specs.Words.Given.{limit, hash, related, as_map, as_trig, base}
+use Rattle.rdfc_cli.specs.Words.Syntax.{nquads, trig}
 use Rattle.rdfc_cli.specs.declared.options.Options.{Options}
 use Rattle.rdfc_cli.specs.declared.options.OptionName.{OptionName}
 
-abbrev pub options_in : List Given → Options
-options_in given = record { limit = given_limit given; hash = given_hash given; related = given_related given; map = given_map given }
+-- what was set by options, each at most once
+pub record Chosen : Type 0 where
+  pub limit : Option ℕ
+  pub hash : Option HashKind
+  pub related : Option Reading
+  pub map : Bool
+  pub trig : Bool
+  pub base : Option Text
+
+abbrev pub chosen : Options → Chosen
+chosen options = record { limit = options.limit; hash = options.hash; related = options.related; map = options.map; trig = options.trig; base = option_copied options.base }
+
+abbrev pub chosen_by : List Given → Chosen
+chosen_by given = record { limit = given_limit given; hash = given_hash given; related = given_related given; map = given_map given; trig = given_trig given; base = given_base given }
 
 -- none of this name was read
-abbrev pub IsNew : Options → Given → Type 0
-IsNew options (limit n) = options.limit ≡ None
-IsNew options (hash kind) = options.hash ≡ None
-IsNew options (related reading) = options.related ≡ None
-IsNew options as_map = options.map ≡ false
+abbrev pub IsNew : Chosen → Given → Type 0
+IsNew chosen (limit n) = chosen.limit ≡ None
+IsNew chosen (hash kind) = chosen.hash ≡ None
+IsNew chosen (related reading) = chosen.related ≡ None
+IsNew chosen as_map = chosen.map ≡ false
+IsNew chosen as_trig = chosen.trig ≡ false
+IsNew chosen (base iri) = chosen.base ≡ None
 
-abbrev pub with_option : Options → Given → Options
-with_option options (limit n) = record options { limit = Some n }
-with_option options (hash kind) = record options { hash = Some kind }
-with_option options (related reading) = record options { related = Some reading }
-with_option options as_map = record options { map = true }
+abbrev pub with_option : Chosen → Given → Chosen
+with_option chosen (limit n) = record chosen { limit = Some n }
+with_option chosen (hash kind) = record chosen { hash = Some kind }
+with_option chosen (related reading) = record chosen { related = Some reading }
+with_option chosen as_map = record chosen { map = true }
+with_option chosen as_trig = record chosen { trig = true }
+with_option chosen (base iri) = record chosen { base = Some iri }
 
 -- the words spell an option that may come next
-pub record MayFollow (options : Options) (given : Given) (words : List Text) : Type 0 where
+pub record MayFollow (chosen : Chosen) (given : Given) (words : List Text) : Type 0 where
   pub spelled : spelled_option given ≡ words
   pub good : HasGoodValue given
-  pub new : IsNew options given
+  pub new : IsNew chosen given
 
 -- the words spell one, and it is added
-pub record Adds (old new : Options) (words : List Text) : Type 0 where
+pub record Adds (old new : Chosen) (words : List Text) : Type 0 where
   pub given : Given
   pub follows : MayFollow old given words
   pub new_is : new ≡ with_option old given
 
 -- the words begin with an option that may come next, and these words are behind it
-pub record MayRead (options : Options) (given : Given) (words rest : List Text) : Type 0 where
+pub record MayRead (chosen : Chosen) (given : Given) (words rest : List Text) : Type 0 where
   pub spelled : words ≡ spelled_option given ++ rest
   pub good : HasGoodValue given
-  pub new : IsNew options given
+  pub new : IsNew chosen given
 
 -- the words begin with one, and it is added
-pub record Reads (old : Options) (words : List Text) (new : Options) (rest : List Text) : Type 0 where
+pub record Reads (old : Chosen) (words : List Text) (new : Chosen) (rest : List Text) : Type 0 where
   pub given : Given
   pub may : MayRead old given words rest
   pub new_is : new ≡ with_option old given
@@ -59,10 +78,10 @@ pub record BeginsWithOptions (words : List Text) (given : List Given) (rest : Li
   pub good : (g : Given) → In g given → HasGoodValue g
 
 -- the words are these options, and then words that begin with none
-pub record AreOptions (words : List Text) (options : Options) (rest : List Text) : Type 0 where
+pub record AreOptions (words : List Text) (chosen : Chosen) (rest : List Text) : Type 0 where
   pub given : List Given
   pub begins : BeginsWithOptions words given rest
-  pub options_are : options ≡ options_in given
+  pub chosen_is : chosen ≡ chosen_by given
   pub no_more : BeginsNoOption rest
 
 abbrev pub AreNoOptions : List Text → Type 0
@@ -73,9 +92,24 @@ abbrev pub BeginsWithName : List Text → OptionName → Type 0
 BeginsWithName [] name = ⊥
 BeginsWithName (word ∷ words) name = word ≡ name_word name
 
+-- no option of these was read that sets the profile
+abbrev pub LeavesProfile : Chosen → Type 0
+LeavesProfile chosen = (chosen.hash ≡ None) × (chosen.related ≡ None)
+
+-- nor one that says how files are written
+abbrev pub LeavesSyntax : Chosen → Type 0
+LeavesSyntax chosen = (chosen.trig ≡ false) × (chosen.base ≡ None)
+
 -- the command takes each option that was read
-abbrev pub AreTaken : Command → Options → Type 0
-AreTaken (on_file task file) options = options.map ≡ false
-AreTaken (compare first second) options = ((options.hash ≡ None) × (options.related ≡ None)) × (options.map ≡ false)
-AreTaken (lean file) options = (options.hash ≡ None) × (options.related ≡ None)
-AreTaken (load n) options = options.map ≡ false
+abbrev pub AreTaken : Command → Chosen → Type 0
+AreTaken (on_file task file) chosen = chosen.map ≡ false
+AreTaken (compare first second) chosen = LeavesProfile chosen × (chosen.map ≡ false)
+AreTaken (lean file) chosen = LeavesProfile chosen
+AreTaken (load n) chosen = LeavesSyntax chosen × (chosen.map ≡ false)
+
+-- a base is set for TriG alone
+abbrev pub HasFittingBase : Chosen → Type 0
+HasFittingBase chosen = chosen.trig ≡ false → chosen.base ≡ None
+
+abbrev pub chosen_syntax : Chosen → Syntax
+chosen_syntax chosen = if chosen.trig then trig chosen.base else nquads

@@ -5,7 +5,6 @@ use Rattle.rdf_terms.specs.Lists.{Text}
 use Rattle.rdf_terms.specs.Document.{Document, dataset, statements}
 use Rattle.lean_search.specs.declared.form.LeanStop.{LeanStop}
 use Rattle.lean_search.specs.declared.form.LeanStop.TheVariants.{NotOneGraph as NotOneGraphStop, SearchLimit as SearchLimitStop, NoMemory as NoMemoryStop}
-use Rattle.ndegree_hash.specs.declared.tie.Tie.{Tie}
 use Rattle.rdfc_cli.specs.Puts.{IsCutShort}
 use Rattle.rdfc_cli.specs.Leaning.{IsLeaning, HasGraphName, IsPastMaps}
 use Rattle.rdfc_cli.specs.Reports.{IsTextOf, IsSummary}

@@ -1,8 +1,12 @@
 -- What the words of a command line were read as.
-use Rattle.std.specs.Prelude.{◌≡◌, List}
+use Rattle.std.specs.Prelude.{◌≡◌, List, IfSome, option_copied}
 use Rattle.rdf_terms.specs.Lists.{Text}
-use Rattle.rdfc_cli.specs.Words.{Command, Given, IsCommand, settings_in, command_word, operands, HasGoodOperands}
+use Rattle.trig_builder.specs.Building.{IsWhole as IsBase}
+use Rattle.rdfc_cli.specs.Words.{Command, Given, Syntax, IsCommand, settings_in, syntax_in, command_word, operands, HasGoodOperands}
 use Rattle.rdfc_cli.specs.Words.Command.{on_file, compare, lean, load}
+use Rattle.rdfc_cli.specs.Words.Syntax.{nquads, trig}
+use Rattle.rdfc_cli.specs.declared.options.Syntax.{Syntax as ReadSyntax}
+use Rattle.rdfc_cli.specs.declared.options.Syntax.TheVariants.{NQuads, TriG}
 use Rattle.rdfc_cli.specs.declared.words.Command.{Command as ReadCommand}
 use Rattle.rdfc_cli.specs.declared.words.Command.TheVariants.{OnFile, Compare, Lean, Load}
 use Rattle.rdfc_cli.specs.declared.words.Request.{Request}
@@ -13,14 +17,24 @@ command_of (Compare first second) = compare first.now second.now
 command_of (Lean file) = lean file.now
 command_of (Load number) = load number
 
+abbrev pub syntax_of : ReadSyntax → Syntax
+syntax_of NQuads = nquads
+syntax_of (TriG base) = trig (option_copied base)
+
 -- the words are this command, with options that set this
 pub record IsRequest (words : List Text) (request : Request) : Type 0 where
   pub options : List Given
   pub is_command : IsCommand words (command_of request.command) options
   pub settings_are : request.settings ≡ settings_in options
+  pub syntax_is : syntax_of request.syntax ≡ syntax_in options
 
 -- the word and those behind the options are this command
 pub record IsSpelled (word : Text) (behind : List Text) (command : Command) : Type 0 where
   pub word_is : word ≡ command_word command
   pub operands_are : behind ≡ operands command
   pub good : HasGoodOperands command
+
+-- the base that files are read with, where there is one, is one
+abbrev pub HasGoodBase : Syntax → Type 0
+HasGoodBase nquads = Unit {0}
+HasGoodBase (trig base) = IfSome base IsBase

@@ -6,10 +6,11 @@ use Rattle.canon_model.specs.declared.profile.HashKind.{HashKind}
 use Rattle.canon_model.specs.declared.profile.HashKind.TheVariants.{Sha256, Sha384}
 use Rattle.canon_model.specs.declared.profile.Related.{Related as Reading}
 use Rattle.canon_model.specs.declared.profile.Related.TheVariants.{Each, Once}
+use Rattle.trig_builder.specs.Building.{IsWhole as IsBase}
 use Rattle.load_document.specs.declared.generator.TheConstants.{LEAST_NUMBER, GREATEST_NUMBER}
 use Rattle.rdfc_cli.specs.declared.options.TheConstants.{LEAST_LIMIT, GREATEST_LIMIT, DEFAULT_LIMIT}
 use Rattle.rdfc_cli.specs.declared.options.OptionName.{OptionName}
-use Rattle.rdfc_cli.specs.declared.options.OptionName.TheVariants.{Limit, Hash, Related, Map as MapName}
+use Rattle.rdfc_cli.specs.declared.options.OptionName.TheVariants.{Limit, Hash, Related, Map as MapName, TriG as TriGName, Base as BaseName}
 use Rattle.rdfc_cli.specs.declared.options.Settings.{Settings}
 use Rattle.rdfc_cli.specs.declared.words.Task.{Task}
 use Rattle.rdfc_cli.specs.declared.words.Task.TheVariants.{Canon, Hash as HashTask, Map, Ties}
@@ -67,18 +68,24 @@ pub data Given : Type 0 where
   hash : HashKind → Given
   related : Reading → Given
   as_map : Given
+  as_trig : Given
+  base : Text → Given
 
 abbrev pub option_name : Given → OptionName
 option_name (limit n) = Limit
 option_name (hash kind) = Hash
 option_name (related reading) = Related
 option_name as_map = MapName
+option_name as_trig = TriGName
+option_name (base iri) = BaseName
 
 abbrev pub name_word : OptionName → Text
 name_word Limit = codes "--limit"
 name_word Hash = codes "--hash"
 name_word Related = codes "--related"
 name_word MapName = codes "--map"
+name_word TriGName = codes "--trig"
+name_word BaseName = codes "--base"
 
 abbrev pub hash_word : HashKind → Text
 hash_word Sha256 = codes "sha256"
@@ -94,42 +101,54 @@ option_value (limit n) = numeral n ∷ []
 option_value (hash kind) = hash_word kind ∷ []
 option_value (related reading) = related_word reading ∷ []
 option_value as_map = []
+option_value as_trig = []
+option_value (base iri) = iri ∷ []
 
 abbrev pub spelled_option : Given → List Text
 spelled_option given = name_word (option_name given) ∷ option_value given
 
--- the values that an option may have
+-- The values that an option may have. A base is an IRI with a scheme (RFC 3986, section 5.1).
 abbrev pub HasGoodValue : Given → Type 0
 HasGoodValue (limit n) = (LEAST_LIMIT ≤ n) × (n ≤ GREATEST_LIMIT)
 HasGoodValue (hash kind) = Unit {0}
 HasGoodValue (related reading) = Unit {0}
 HasGoodValue as_map = Unit {0}
+HasGoodValue as_trig = Unit {0}
+HasGoodValue (base iri) = IsBase iri
 
--- which options a command takes: a comparison is under the default profile alone, and only `lean` has a map to show in place of its graph
-abbrev pub TakesOption : Command → Given → Type 0
-TakesOption (on_file task file) (limit n) = Unit {0}
-TakesOption (on_file task file) (hash kind) = Unit {0}
-TakesOption (on_file task file) (related reading) = Unit {0}
-TakesOption (on_file task file) as_map = ⊥
-TakesOption (compare first second) (limit n) = Unit {0}
-TakesOption (compare first second) (hash kind) = ⊥
-TakesOption (compare first second) (related reading) = ⊥
-TakesOption (compare first second) as_map = ⊥
-TakesOption (lean file) (limit n) = Unit {0}
-TakesOption (lean file) (hash kind) = ⊥
-TakesOption (lean file) (related reading) = ⊥
-TakesOption (lean file) as_map = Unit {0}
-TakesOption (load n) (limit m) = Unit {0}
-TakesOption (load n) (hash kind) = Unit {0}
-TakesOption (load n) (related reading) = Unit {0}
-TakesOption (load n) as_map = ⊥
+-- a comparison is under the default profile alone, and a lean form under none
+abbrev pub HasProfile : Command → Type 0
+HasProfile (on_file task file) = Unit {0}
+HasProfile (compare first second) = ⊥
+HasProfile (lean file) = ⊥
+HasProfile (load n) = Unit {0}
+
+-- only `lean` has a map to show in place of its graph
+abbrev pub HasMap : Command → Type 0
+HasMap (lean file) = Unit {0}
+HasMap command = ⊥
+
+-- a document that is made is no file
+abbrev pub ReadsFiles : Command → Type 0
+ReadsFiles (load n) = ⊥
+ReadsFiles command = Unit {0}
+
+-- which options a command takes
+abbrev pub TakesOption : Command → OptionName → Type 0
+TakesOption command Limit = Unit {0}
+TakesOption command Hash = HasProfile command
+TakesOption command Related = HasProfile command
+TakesOption command MapName = HasMap command
+TakesOption command TriGName = ReadsFiles command
+TakesOption command BaseName = ReadsFiles command
 
 -- the words are the command's word, its options and its operands
 pub record IsCommand (words : List Text) (command : Command) (options : List Given) : Type 0 where
   pub spelled : words ≡ command_word command ∷ (flat_map spelled_option options ++ operands command)
   pub once : AreDistinct (map option_name options)
   pub good_values : (given : Given) → In given options → HasGoodValue given
-  pub taken : (given : Given) → In given options → TakesOption command given
+  pub taken : (given : Given) → In given options → TakesOption command (option_name given)
+  pub of_trig : (iri : Text) → In (base iri) options → In as_trig options
   pub good_operands : HasGoodOperands command
 
 abbrev pub IsNoCommand : List Text → Type 0
@@ -140,30 +159,32 @@ IsNoCommand words = (command : Command) (options : List Given) → ¬ (IsCommand
 abbrev pub given_limit : List Given → Option ℕ
 given_limit [] = None
 given_limit (limit n ∷ options) = Some n
-given_limit (hash kind ∷ options) = given_limit options
-given_limit (related reading ∷ options) = given_limit options
-given_limit (as_map ∷ options) = given_limit options
+given_limit (given ∷ options) = given_limit options
 
 abbrev pub given_hash : List Given → Option HashKind
 given_hash [] = None
-given_hash (limit n ∷ options) = given_hash options
 given_hash (hash kind ∷ options) = Some kind
-given_hash (related reading ∷ options) = given_hash options
-given_hash (as_map ∷ options) = given_hash options
+given_hash (given ∷ options) = given_hash options
 
 abbrev pub given_related : List Given → Option Reading
 given_related [] = None
-given_related (limit n ∷ options) = given_related options
-given_related (hash kind ∷ options) = given_related options
 given_related (related reading ∷ options) = Some reading
-given_related (as_map ∷ options) = given_related options
+given_related (given ∷ options) = given_related options
 
 abbrev pub given_map : List Given → Bool
 given_map [] = false
-given_map (limit n ∷ options) = given_map options
-given_map (hash kind ∷ options) = given_map options
-given_map (related reading ∷ options) = given_map options
 given_map (as_map ∷ options) = true
+given_map (given ∷ options) = given_map options
+
+abbrev pub given_trig : List Given → Bool
+given_trig [] = false
+given_trig (as_trig ∷ options) = true
+given_trig (given ∷ options) = given_trig options
+
+abbrev pub given_base : List Given → Option Text
+given_base [] = None
+given_base (base iri ∷ options) = Some iri
+given_base (given ∷ options) = given_base options
 
 -- what is given, and else the default: SHA-256, with an entry for each time that a node is met
 abbrev pub settings_in : List Given → Settings
@@ -172,3 +193,11 @@ settings_in options = record {
   profile = record { hash = unwrap_or (given_hash options) Sha256; related = unwrap_or (given_related options) Each };
   map = given_map options;
 }
+
+-- how the files are written: in N-Quads, or in TriG with this base, where one is given
+pub data Syntax : Type 0 where
+  nquads : Syntax
+  trig : Option Text → Syntax
+
+abbrev pub syntax_in : List Given → Syntax
+syntax_in options = if given_trig options then trig (given_base options) else nquads

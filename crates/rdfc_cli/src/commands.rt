@@ -2,9 +2,9 @@
 ghost use Rattle.std.specs.Prelude.{◌≡◌, ◌↔◌, ◌≤◌, List, map, string_bytes, IfOk, IfErr, MatchOption};
 ghost use Rattle.rdf_terms.specs.Lists.{Text};
 ghost use Rattle.outside.specs.Faults.{Rose};
-ghost use Rattle.rdfc_cli.specs.Words.{Command as SpelledCommand, Given, HasGoodOperands, IsCommand, IsNoCommand, settings_in, file_word};
+ghost use Rattle.rdfc_cli.specs.Words.{Command as SpelledCommand, Given, HasGoodOperands, IsCommand, IsNoCommand, settings_in, syntax_in, file_word};
 ghost use Rattle.rdfc_cli.specs.Words.Command.{on_file, compare, lean, load};
-ghost use Rattle.rdfc_cli.specs.Requests.{command_of};
+ghost use Rattle.rdfc_cli.specs.Requests.{command_of, syntax_of, HasGoodBase};
 ghost use Rattle.rdfc_cli.specs.Answers.{FileSeen, seen, IsWritten, Stops, Answers};
 ghost use Rattle.rdfc_cli.specs.FileFaults.{IsFaultStatus};
 ghost use Rattle.rdfc_cli.specs.Outputs.{Delivers, IsTaskOutput, IsRunStop, IsLeanOutput, IsLeanEnd, EndsAs};
@@ -17,7 +17,7 @@ use crate::form::form_of_file;
 use crate::lean_text::lean_text;
 use crate::made::{made_dataset, summary_output};
 use crate::notes::{put_note, put_usage};
-use crate::options::Settings;
+use crate::options::{Settings, Syntax};
 use crate::output::{Output, task_output};
 use crate::status::{Cause, Refusal, Status};
 use crate::words::{Command, Request, Task, read_words};
@@ -71,12 +71,14 @@ fn output_of_file<S: Shelf>(
     task: Task,
     settings: Settings,
     shelf: &mut S,
+    syntax: Syntax<'_>,
     file: &str,
 ) -> Result<Output, Status>
-    ensures output { IfOk result (λ output. IsWritten (seen S.told S.faults shelf.old shelf.new) (on_file task file.now) settings output.unsettled output.text) }
-    ensures stops { IfErr result (Stops (seen S.told S.faults shelf.old shelf.new) (on_file task file.now) settings) }
+    requires base { HasGoodBase (syntax_of syntax) }
+    ensures output { IfOk result (λ output. IsWritten (seen (syntax_of syntax.entry) S.told S.faults shelf.old shelf.new) (on_file task file.now) settings output.unsettled output.text) }
+    ensures stops { IfErr result (Stops (seen (syntax_of syntax.entry) S.told S.faults shelf.old shelf.new) (on_file task file.now) settings) }
 {
-    match read_dataset(alloc, keys, shelf, file) {
+    match read_dataset(alloc, keys, shelf, syntax, file) {
         Ok(dataset) => output_of_dataset(alloc, task, settings, &dataset),
         Err(fault) => Err(fault.status(0)),
     }
@@ -88,9 +90,10 @@ fn output_of<S: Shelf>(
     request: Request<'_>,
     shelf: &mut S,
 ) -> Result<Output, Status>
-    requires { HasGoodOperands (command_of request.command) }
-    ensures output { IfOk result (λ output. IsWritten (seen S.told S.faults shelf.old shelf.new) (command_of request.entry.command) request.entry.settings output.unsettled output.text) }
-    ensures stops { IfErr result (Stops (seen S.told S.faults shelf.old shelf.new) (command_of request.entry.command) request.entry.settings) }
+    requires operands { HasGoodOperands (command_of request.command) }
+    requires base { HasGoodBase (syntax_of request.syntax) }
+    ensures output { IfOk result (λ output. IsWritten (seen (syntax_of request.entry.syntax) S.told S.faults shelf.old shelf.new) (command_of request.entry.command) request.entry.settings output.unsettled output.text) }
+    ensures stops { IfErr result (Stops (seen (syntax_of request.entry.syntax) S.told S.faults shelf.old shelf.new) (command_of request.entry.command) request.entry.settings) }
 {
     match request.command {
         Command::OnFile { task, file } => output_of_file(
@@ -99,6 +102,7 @@ fn output_of<S: Shelf>(
             task,
             request.settings,
             shelf,
+            request.syntax,
             file,
         ),
         Command::Compare { first, second } => output_of_pair(
@@ -106,10 +110,18 @@ fn output_of<S: Shelf>(
             keys,
             request.settings,
             shelf,
+            request.syntax,
             first,
             second,
         ),
-        Command::Lean { file } => output_of_graph(alloc, keys, request.settings, shelf, file),
+        Command::Lean { file } => output_of_graph(
+            alloc,
+            keys,
+            request.settings,
+            shelf,
+            request.syntax,
+            file,
+        ),
         Command::Load { number } => output_of_number(alloc, keys, request.settings, number),
     }
 }
@@ -148,12 +160,14 @@ fn output_of_graph<S: Shelf>(
     keys: RandomState,
     settings: Settings,
     shelf: &mut S,
+    syntax: Syntax<'_>,
     file: &str,
 ) -> Result<Output, Status>
-    ensures output { IfOk result (λ output. IsWritten (seen S.told S.faults shelf.old shelf.new) (lean file.now) settings output.unsettled output.text) }
-    ensures stops { IfErr result (Stops (seen S.told S.faults shelf.old shelf.new) (lean file.now) settings) }
+    requires base { HasGoodBase (syntax_of syntax) }
+    ensures output { IfOk result (λ output. IsWritten (seen (syntax_of syntax.entry) S.told S.faults shelf.old shelf.new) (lean file.now) settings output.unsettled output.text) }
+    ensures stops { IfErr result (Stops (seen (syntax_of syntax.entry) S.told S.faults shelf.old shelf.new) (lean file.now) settings) }
 {
-    match read_dataset(alloc, keys, shelf, file) {
+    match read_dataset(alloc, keys, shelf, syntax, file) {
         Ok(graph) => output_of_lean(alloc, settings, &graph),
         Err(fault) => Err(fault.status(0)),
     }
@@ -166,17 +180,19 @@ fn output_of_pair<S: Shelf>(
     keys: RandomState,
     settings: Settings,
     shelf: &mut S,
+    syntax: Syntax<'_>,
     first: &str,
     second: &str,
 ) -> Result<Output, Status>
-    ensures output { IfOk result (λ output. IsWritten (seen S.told S.faults shelf.old shelf.new) (compare first.now second.now) settings output.unsettled output.text) }
-    ensures stops { IfErr result (Stops (seen S.told S.faults shelf.old shelf.new) (compare first.now second.now) settings) }
+    requires base { HasGoodBase (syntax_of syntax) }
+    ensures output { IfOk result (λ output. IsWritten (seen (syntax_of syntax.entry) S.told S.faults shelf.old shelf.new) (compare first.now second.now) settings output.unsettled output.text) }
+    ensures stops { IfErr result (Stops (seen (syntax_of syntax.entry) S.told S.faults shelf.old shelf.new) (compare first.now second.now) settings) }
 {
-    let form = match form_of_file(alloc, keys, settings, shelf, first) {
+    let form = match form_of_file(alloc, keys, settings, shelf, syntax, first) {
         Ok(form) => form,
         Err(fault) => return Err(fault.status(0)),
     };
-    match form_of_file(alloc, keys, settings, shelf, second) {
+    match form_of_file(alloc, keys, settings, shelf, syntax, second) {
         Ok(other) => output_of_forms(alloc, settings, form, other),
         Err(fault) => Err(fault.status(1)),
     }
@@ -229,8 +245,9 @@ fn execute<S: Shelf, K: Sink>(
     shelf: &mut S,
     out: &mut K,
 ) -> Status
-    requires { HasGoodOperands (command_of request.command) }
-    ensures { Answers K.taken K.faults (seen S.told S.faults shelf.old shelf.new) (command_of request.entry.command) request.entry.settings out.old out.new result }
+    requires operands { HasGoodOperands (command_of request.command) }
+    requires base { HasGoodBase (syntax_of request.syntax) }
+    ensures { Answers K.taken K.faults (seen (syntax_of request.entry.syntax) S.told S.faults shelf.old shelf.new) (command_of request.entry.command) request.entry.settings out.old out.new result }
 {
     match output_of(alloc, keys, request, shelf) {
         Ok(output) => deliver(out, output),
@@ -254,7 +271,7 @@ pub fn run<S: Shelf, K: Sink, N: Sink>(
     ensures untouched { result ≡ Status.Usage → (shelf.new ≡ shelf.old) × (out.new ≡ out.old) }
 
     ensures answer { (command : SpelledCommand) (options : List Given) → IsCommand (map string_bytes words.now) command options →
-        Answers K.taken K.faults (seen S.told S.faults shelf.old shelf.new) command (settings_in options) out.old out.new result }
+        Answers K.taken K.faults (seen (syntax_in options) S.told S.faults shelf.old shelf.new) command (settings_in options) out.old out.new result }
 
     ensures note { (command : SpelledCommand) (options : List Given) → IsCommand (map string_bytes words.now) command options →
         IsNoted N.taken N.faults notes.old notes.new (file_word command) result }

@@ -5,10 +5,11 @@ ghost use Rattle.rdf_terms.specs.Document.{dataset as dataset_of};
 ghost use Rattle.rdfc_cli.specs.Answers.{Content, Accepts, seen};
 ghost use Rattle.rdfc_cli.specs.FileFaults.{content_of, IsFileFault};
 ghost use Rattle.rdfc_cli.specs.Forms.{IsRun, IsFormOf};
+ghost use Rattle.rdfc_cli.specs.Requests.{syntax_of, HasGoodBase};
 
 use crate::dataset_file::read_dataset;
 use crate::files::FileFault;
-use crate::options::Settings;
+use crate::options::{Settings, Syntax};
 use canon_core::{Canon, canonicalise};
 use dataset_index::Dataset;
 use ndegree_hash::Stop;
@@ -70,13 +71,15 @@ pub(crate) fn form_of_file<S: Shelf>(
     keys: RandomState,
     settings: Settings,
     shelf: &mut S,
+    syntax: Syntax<'_>,
     file: &str,
 ) -> Result<Form, FileFault>
-    ensures form { IfOk result (λ form. (content : Content) × IfSome (S.told shelf.old file.now) (λ told. Accepts told content) × IsFormOf settings content form) }
-    ensures fault { IfErr result (IsFileFault (seen S.told S.faults shelf.old shelf.new file.now)) }
+    requires base { HasGoodBase (syntax_of syntax) }
+    ensures form { IfOk result (λ form. (content : Content) × IfSome (S.told shelf.old file.now) (λ told. Accepts (syntax_of syntax.entry) told content) × IsFormOf settings content form) }
+    ensures fault { IfErr result (IsFileFault (seen (syntax_of syntax.entry) S.told S.faults shelf.old shelf.new file.now)) }
     ensures told { (other : Text) → S.told shelf.new other ≡ S.told shelf.old other }
     ensures never_fell { (other : Text) → S.faults shelf.old other ≤ S.faults shelf.new other }
 {
-    let dataset = read_dataset(alloc, keys, shelf, file)?;
+    let dataset = read_dataset(alloc, keys, shelf, syntax, file)?;
     Ok(form_of_dataset(alloc, settings, &dataset)?)
 }

@@ -4,7 +4,7 @@
 pub use commands::run;
 pub use files::FILE_LIMIT;
 pub use notes::{put_note, put_usage};
-pub use options::{DEFAULT_LIMIT, GREATEST_LIMIT, LEAST_LIMIT, Settings};
+pub use options::{DEFAULT_LIMIT, GREATEST_LIMIT, LEAST_LIMIT, Settings, Syntax};
 pub use status::{Cause, Refusal, Status};
 pub use words::{Command, Request, Task, read_words};
 pub use write::put_all;

@@ -7,6 +7,7 @@ ghost use Rattle.load_document.specs.LoadDocument.{load_document};
 ghost use Rattle.rdfc_cli.specs.Answers.{Accepts, States};
 ghost use Rattle.rdfc_cli.specs.FileFaults.{content_of};
 ghost use Rattle.rdfc_cli.specs.Outputs.{IsRunStop, IsSummaryOutput};
+ghost use Rattle.rdfc_cli.specs.Words.Syntax.{nquads};
 ghost use Rattle.rdfc_cli.specs.Reports.{IsSummary, summary_text};
 
 use crate::options::Settings;
@@ -26,7 +27,7 @@ use std::hash::RandomState;
 fn read_made(alloc: Global, keys: RandomState, number: u32) -> Result<Parsed, NoMemory>
     requires least { LEAST_NUMBER ≤ number }
     requires greatest { number ≤ GREATEST_NUMBER }
-    ensures { IfOk result (λ parsed. States (load_document number) parsed.labels (statements parsed)) }
+    ensures { IfOk result (λ parsed. States nquads (load_document number) parsed.labels (statements parsed)) }
 {
     let bytes = generate(alloc, number)?;
     match read_nquads(alloc, keys, bytes.as_slice()) {
@@ -44,7 +45,7 @@ pub(crate) fn made_dataset(
 ) -> Result<Dataset, NoMemory>
     requires least { LEAST_NUMBER ≤ number }
     requires greatest { number ≤ GREATEST_NUMBER }
-    ensures { IfOk result (λ d. Accepts (load_document number) (content_of d)) }
+    ensures { IfOk result (λ d. Accepts nquads (load_document number) (content_of d)) }
 {
     let parsed = read_made(alloc, keys, number)?;
     let dataset = Dataset::build(alloc, parsed)?;

@@ -53,6 +53,9 @@ fn put_cause<N: Sink>(notes: &mut N, cause: Cause) -> Result<(), Failed>
         Cause::NotUtf8 { line } => put_count(notes, ":", line, ": not UTF-8"),
         Cause::BadLine { line } => put_count(notes, ":", line, ": not an N-Quads line"),
         Cause::RelativeIri { line } => put_count(notes, ":", line, ": IRI without a scheme"),
+        Cause::BadTrig { line } => put_count(notes, ":", line, ": not TriG"),
+        Cause::UnknownPrefix { line } => put_count(notes, ":", line, ": unknown prefix"),
+        Cause::NoBase { line } => put_count(notes, ":", line, ": relative IRI without a base"),
         Cause::TooManyQuads => put_count(notes, ": more than ", MAX_QUADS, " quads"),
         Cause::NotOneGraph => put_all(notes, b": a quad has a graph name"),
     }

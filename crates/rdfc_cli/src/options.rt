@@ -1,16 +1,21 @@
 //! The options of a command: how they are spelled, and what they set.
 ghost use Rattle.std.specs.Prelude.{◌≡◌, ◌↔◌, ℕ, ◌^◌, ◌<◌, ◌≤◌, List, [], ◌∷◌, false, length, map, string_bytes, IsTrue, IfSome, IfNone, None};
+ghost use Rattle.std.specs.Option.{option_copied};
 ghost use Rattle.rdf_terms.specs.Lists.{Text};
 ghost use Rattle.rdf_terms.specs.Numeral.{numeral};
 ghost use Rattle.canon_model.specs.declared.profile.HashKind.{HashKind};
 ghost use Rattle.canon_model.specs.declared.profile.Related.{Related};
+ghost use Rattle.trig_builder.specs.Building.{IsWhole as IsBase};
 ghost use Rattle.rdfc_cli.specs.Words.{Given, name_word, hash_word, related_word, settings_in};
-ghost use Rattle.rdfc_cli.specs.Words.Given.{limit as limit_given, hash as hash_given, related as related_given, as_map as map_given};
-ghost use Rattle.rdfc_cli.specs.Options.{options_in, MayFollow, MayRead, Adds, Reads, AreOptions, AreNoOptions, BeginsNoOption, BeginsWithName};
+ghost use Rattle.rdfc_cli.specs.Words.Given.{limit as limit_given, hash as hash_given, related as related_given, as_map as map_given, as_trig as trig_given, base as base_given};
+ghost use Rattle.rdfc_cli.specs.Options.{chosen, chosen_by, chosen_syntax, MayFollow, MayRead, Adds, Reads, AreOptions, AreNoOptions, BeginsNoOption, BeginsWithName, LeavesProfile, LeavesSyntax, HasFittingBase};
+ghost use Rattle.rdfc_cli.specs.Requests.{syntax_of};
 ghost use Rattle.rdfc_cli.specs.declared.options.OptionName.{OptionName};
 
 use crate::decimal::Decimal;
 use canon_model::{HashKind, Profile, Related};
+use char_tables::iri_len;
+use iri_resolve::has_scheme;
 
 /// The least limit that an option sets.
 pub const LEAST_LIMIT: u64 = 1;
@@ -32,21 +37,41 @@ pub struct Settings {
     pub map: bool,
 }
 
+/// How the files of a command are written.
+#[derive(Clone, Copy, Debug, PartialEq, Eq)]
+pub enum Syntax<'a> {
+    /// RDF 1.1 N-Quads.
+    NQuads,
+    /// RDF 1.1 TriG. The base, where there is one, is that of the first reference without a scheme.
+    TriG { base: Option<&'a str> },
+}
+
 #[derive(Clone, Copy)]
 enum OptionName {
     Limit,
     Hash,
     Related,
     Map,
+    TriG,
+    Base,
 }
 
 // The options that were read so far, each at most once.
 #[derive(Clone, Copy)]
-pub(crate) struct Options {
+pub(crate) struct Options<'a> {
     limit: Option<u64>,
     hash: Option<HashKind>,
     related: Option<Related>,
     map: bool,
+    trig: bool,
+    base: Option<&'a str>,
+}
+
+/// The options that were read so far, and the words that are left.
+#[derive(Clone, Copy)]
+pub(crate) struct Reading<'a> {
+    pub options: Options<'a>,
+    pub rest: &'a [String],
 }
 
 fn name_of(word: &str) -> Option<OptionName>
@@ -58,6 +83,8 @@ fn name_of(word: &str) -> Option<OptionName>
         "--hash" => Some(OptionName::Hash),
         "--related" => Some(OptionName::Related),
         "--map" => Some(OptionName::Map),
+        "--trig" => Some(OptionName::TriG),
+        "--base" => Some(OptionName::Base),
         _ => None,
     }
 }
@@ -114,21 +141,36 @@ fn related_of(word: &str) -> Option<Related>
     }
 }
 
-impl Options {
+// The base that the word is: an IRI with a scheme, without characters that an IRI excludes.
+fn base_of(word: &str) -> Option<&str>
+    ensures some { IfSome result (λ base. base.now ≡ word.now) }
+    ensures good { IfSome result (λ base. IsBase base.now) }
+    ensures none { IfNone result (¬ (IsBase word.now)) }
+{
+    if has_scheme(word) && iri_len(word.as_bytes()) == word.len() {
+        Some(word)
+    } else {
+        None
+    }
+}
+
+impl<'a> Options<'a> {
     fn none() -> Self
-        ensures { result ≡ record { limit = None; hash = None; related = None; map = false } }
+        ensures { chosen result ≡ chosen_by [] }
     {
         Options {
             limit: None,
             hash: None,
             related: None,
             map: false,
+            trig: false,
+            base: None,
         }
     }
 
     fn with_limit(self, value: &str) -> Option<Self>
-        ensures some { IfSome result (λ new. Adds self new (name_word OptionName.Limit ∷ value.now ∷ [])) }
-        ensures none { IfNone result ((n : ℕ) → ¬ (MayFollow self (limit_given n) (name_word OptionName.Limit ∷ value.now ∷ []))) }
+        ensures some { IfSome result (λ new. Adds (chosen self.entry) (chosen new) (name_word OptionName.Limit ∷ value.now ∷ [])) }
+        ensures none { IfNone result ((n : ℕ) → ¬ (MayFollow (chosen self.entry) (limit_given n) (name_word OptionName.Limit ∷ value.now ∷ []))) }
     {
         match self.limit {
             None => Some(Options {
@@ -140,8 +182,8 @@ impl Options {
     }
 
     fn with_hash(self, value: &str) -> Option<Self>
-        ensures some { IfSome result (λ new. Adds self new (name_word OptionName.Hash ∷ value.now ∷ [])) }
-        ensures none { IfNone result ((kind : HashKind) → ¬ (MayFollow self (hash_given kind) (name_word OptionName.Hash ∷ value.now ∷ []))) }
+        ensures some { IfSome result (λ new. Adds (chosen self.entry) (chosen new) (name_word OptionName.Hash ∷ value.now ∷ [])) }
+        ensures none { IfNone result ((kind : HashKind) → ¬ (MayFollow (chosen self.entry) (hash_given kind) (name_word OptionName.Hash ∷ value.now ∷ []))) }
     {
         match self.hash {
             None => Some(Options {
@@ -153,8 +195,8 @@ impl Options {
     }
 
     fn with_related(self, value: &str) -> Option<Self>
-        ensures some { IfSome result (λ new. Adds self new (name_word OptionName.Related ∷ value.now ∷ [])) }
-        ensures none { IfNone result ((reading : Related) → ¬ (MayFollow self (related_given reading) (name_word OptionName.Related ∷ value.now ∷ []))) }
+        ensures some { IfSome result (λ new. Adds (chosen self.entry) (chosen new) (name_word OptionName.Related ∷ value.now ∷ [])) }
+        ensures none { IfNone result ((reading : Related) → ¬ (MayFollow (chosen self.entry) (related_given reading) (name_word OptionName.Related ∷ value.now ∷ []))) }
     {
         match self.related {
             None => Some(Options {
@@ -166,8 +208,8 @@ impl Options {
     }
 
     fn with_map(self) -> Option<Self>
-        ensures some { IfSome result (λ new. Adds self new (name_word OptionName.Map ∷ [])) }
-        ensures none { IfNone result (¬ (MayFollow self map_given (name_word OptionName.Map ∷ []))) }
+        ensures some { IfSome result (λ new. Adds (chosen self.entry) (chosen new) (name_word OptionName.Map ∷ [])) }
+        ensures none { IfNone result (¬ (MayFollow (chosen self.entry) map_given (name_word OptionName.Map ∷ []))) }
     {
         if self.map {
             None
@@ -176,25 +218,60 @@ impl Options {
         }
     }
 
+    fn with_trig(self) -> Option<Self>
+        ensures some { IfSome result (λ new. Adds (chosen self.entry) (chosen new) (name_word OptionName.TriG ∷ [])) }
+        ensures none { IfNone result (¬ (MayFollow (chosen self.entry) trig_given (name_word OptionName.TriG ∷ []))) }
+    {
+        if self.trig {
+            None
+        } else {
+            Some(Options { trig: true, ..self })
+        }
+    }
+
+    fn with_base(self, value: &'a str) -> Option<Self>
+        ensures some { IfSome result (λ new. Adds (chosen self.entry) (chosen new) (name_word OptionName.Base ∷ value.now ∷ [])) }
+        ensures none { IfNone result ((iri : Text) → ¬ (MayFollow (chosen self.entry) (base_given iri) (name_word OptionName.Base ∷ value.now ∷ []))) }
+    {
+        match self.base {
+            None => Some(Options {
+                base: Some(base_of(value)?),
+                ..self
+            }),
+            Some(_) => None,
+        }
+    }
+
     // These and the option of this name with this value. `None` where it was read before, or can't have the value.
-    fn with(self, name: OptionName, value: &str) -> Option<Self>
-        ensures some { IfSome result (λ new. Adds self new (name_word name ∷ value.now ∷ [])) }
-        ensures none { IfNone result ((given : Given) → ¬ (MayFollow self given (name_word name ∷ value.now ∷ []))) }
+    fn with(self, name: OptionName, value: &'a str) -> Option<Self>
+        ensures some { IfSome result (λ new. Adds (chosen self.entry) (chosen new) (name_word name ∷ value.now ∷ [])) }
+        ensures none { IfNone result ((given : Given) → ¬ (MayFollow (chosen self.entry) given (name_word name ∷ value.now ∷ []))) }
     {
         match name {
             OptionName::Limit => self.with_limit(value),
             OptionName::Hash => self.with_hash(value),
             OptionName::Related => self.with_related(value),
-            OptionName::Map => None,
+            OptionName::Base => self.with_base(value),
+            OptionName::Map | OptionName::TriG => None,
         }
     }
 
     /// Whether none of them was read that sets the profile.
     pub(crate) fn leave_the_profile(&self) -> bool
-        ensures { IsTrue result ↔ ((self.now.hash ≡ None) × (self.now.related ≡ None)) }
+        ensures { IsTrue result ↔ LeavesProfile (chosen self.now) }
     {
         match (self.hash, self.related) {
             (None, None) => true,
+            _ => false,
+        }
+    }
+
+    /// Whether none of them was read that says how files are written.
+    pub(crate) fn leave_the_syntax(&self) -> bool
+        ensures { IsTrue result ↔ LeavesSyntax (chosen self.now) }
+    {
+        match (self.trig, self.base) {
+            (false, None) => true,
             _ => false,
         }
     }
@@ -208,7 +285,7 @@ impl Options {
 
     /// What they set, with the default for each that was not read.
     pub(crate) fn settings(&self) -> Settings
-        ensures { (given : List Given) → self.now ≡ options_in given → result ≡ settings_in given }
+        ensures { (given : List Given) → chosen self.now ≡ chosen_by given → result ≡ settings_in given }
     {
         Settings {
             limit: self.limit.unwrap_or(DEFAULT_LIMIT),
@@ -217,6 +294,19 @@ impl Options {
                 related: self.related.unwrap_or(Related::Each),
             },
             map: self.map,
+        }
+    }
+
+    /// How they say that files are written. `None` where a base was read and TriG was not.
+    pub(crate) fn syntax(&self) -> Option<Syntax<'a>>
+        ensures some { IfSome result (λ s. syntax_of s ≡ chosen_syntax (chosen self.now)) }
+        ensures fits { IfSome result (λ _. HasFittingBase (chosen self.now)) }
+        ensures none { IfNone result (¬ (HasFittingBase (chosen self.now))) }
+    {
+        match (self.trig, self.base) {
+            (true, base) => Some(Syntax::TriG { base }),
+            (false, None) => Some(Syntax::NQuads),
+            (false, Some(_)) => None,
         }
     }
 }
@@ -228,34 +318,39 @@ fn first_name(words: &[String]) -> Option<OptionName>
     name_of(words.first()?.as_str())
 }
 
-// These and the option of this name that the words begin with, and the words behind it. `None` where it was read
-// before, or is spelled wrong.
-fn read_option(options: Options, name: OptionName, words: &[String]) -> Option<(Options, &[String])>
-    requires { BeginsWithName (map string_bytes words.now) name }
-    ensures some { IfSome result (λ r. Reads options (map string_bytes words.now) r.0 (map string_bytes r.1.now)) }
-    ensures none { IfNone result ((given : Given) (rest : List Text) → ¬ (MayRead options given (map string_bytes words.now) rest)) }
-    ensures fewer { IfSome result (λ r. length r.1.now < length words.now) }
-{
-    let (_, behind) = words.split_first()?;
-    if let OptionName::Map = name {
-        return Some((options.with_map()?, behind));
+impl<'a> Reading<'a> {
+    // With the option of this name that the words begin with. `None` where it was read before, or is spelled wrong.
+    fn read_option(self, name: OptionName) -> Option<Self>
+        requires { BeginsWithName (map string_bytes self.rest.now) name }
+        ensures some { IfSome result (λ r. Reads (chosen self.entry.options) (map string_bytes self.entry.rest.now) (chosen r.options) (map string_bytes r.rest.now)) }
+        ensures none { IfNone result ((given : Given) (rest : List Text) → ¬ (MayRead (chosen self.entry.options) given (map string_bytes self.entry.rest.now) rest)) }
+        ensures fewer { IfSome result (λ r. length r.rest.now < length self.entry.rest.now) }
+    {
+        let (_, behind) = self.rest.split_first()?;
+        let (options, rest) = match name {
+            OptionName::Map => (self.options.with_map()?, behind),
+            OptionName::TriG => (self.options.with_trig()?, behind),
+            _ => {
+                let (value, rest) = behind.split_first()?;
+                (self.options.with(name, value.as_str())?, rest)
+            }
+        };
+        Some(Reading { options, rest })
     }
-    let (value, rest) = behind.split_first()?;
-    Some((options.with(name, value.as_str())?, rest))
 }
 
 /// The options that the words begin with, and the words behind them. `None` where an option is spelled wrong, or is
 /// there twice.
-pub(crate) fn read_options(words: &[String]) -> Option<(Options, &[String])>
-    ensures some { IfSome result (λ r. AreOptions (map string_bytes words.now) r.0 (map string_bytes r.1.now)) }
+pub(crate) fn read_options(words: &[String]) -> Option<Reading<'_>>
+    ensures some { IfSome result (λ r. AreOptions (map string_bytes words.now) (chosen r.options) (map string_bytes r.rest.now)) }
     ensures none { IfNone result (AreNoOptions (map string_bytes words.now)) }
 {
-    let mut options = Options::none();
-    let mut rest = words;
-    while let Some(name) = first_name(rest) {
-        let (more, behind) = read_option(options, name, rest)?;
-        options = more;
-        rest = behind;
+    let mut reading = Reading {
+        options: Options::none(),
+        rest: words,
+    };
+    while let Some(name) = first_name(reading.rest) {
+        reading = reading.read_option(name)?;
     }
-    Some((options, rest))
+    Some(reading)
 }

@@ -42,6 +42,9 @@ pub enum Cause {
     NotUtf8 { line: u64 },
     BadLine { line: u64 },
     RelativeIri { line: u64 },
+    BadTrig { line: u64 },
+    UnknownPrefix { line: u64 },
+    NoBase { line: u64 },
     TooManyQuads,
     NotOneGraph,
 }

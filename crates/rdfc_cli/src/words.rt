@@ -3,11 +3,11 @@ ghost use Rattle.std.specs.Prelude.{◌≡◌, ◌↔◌, ℕ, map, string_bytes
 ghost use Rattle.rdf_terms.specs.Lists.{Text};
 ghost use Rattle.rdfc_cli.specs.Words.{Command as SpelledCommand, task_word, IsFileWord, IsNoCommand, file_word};
 ghost use Rattle.rdfc_cli.specs.Words.Command.{on_file, compare as compare_files, lean as lean_file, load as load_number};
-ghost use Rattle.rdfc_cli.specs.Options.{AreTaken};
+ghost use Rattle.rdfc_cli.specs.Options.{AreTaken, chosen};
 ghost use Rattle.rdfc_cli.specs.Requests.{command_of, IsRequest, IsSpelled};
 ghost use Rattle.rdfc_cli.specs.declared.words.Task.{Task};
 
-use crate::options::{Options, Settings, number_within, read_options};
+use crate::options::{Options, Reading, Settings, Syntax, number_within, read_options};
 use load_document::{GREATEST_NUMBER, LEAST_NUMBER};
 
 /// What is to be done with a file.
@@ -40,6 +40,8 @@ pub enum Command<'a> {
 pub struct Request<'a> {
     pub command: Command<'a>,
     pub settings: Settings,
+    /// How its files are written.
+    pub syntax: Syntax<'a>,
 }
 
 impl<'a> Command<'a> {
@@ -56,14 +58,14 @@ impl<'a> Command<'a> {
     }
 
     // Whether it takes each option that was read.
-    fn takes(&self, options: &Options) -> bool
-        ensures { IsTrue result ↔ AreTaken (command_of self.now) options.now }
+    fn takes(&self, options: &Options<'_>) -> bool
+        ensures { IsTrue result ↔ AreTaken (command_of self.now) (chosen options.now) }
     {
         match self {
             Command::OnFile { .. } => options.leave_the_map(),
             Command::Compare { .. } => options.leave_the_profile() && options.leave_the_map(),
             Command::Lean { .. } => options.leave_the_profile(),
-            Command::Load { .. } => options.leave_the_map(),
+            Command::Load { .. } => options.leave_the_syntax() && options.leave_the_map(),
         }
     }
 }
@@ -173,12 +175,17 @@ pub fn read_words(words: &[String]) -> Option<Request<'_>>
     ensures none { IfNone result (IsNoCommand (map string_bytes words.now)) }
 {
     let (word, more) = words.split_first()?;
-    let (options, operands) = read_options(more)?;
+    let Reading {
+        options,
+        rest: operands,
+    } = read_options(more)?;
     let command = read_command(word.as_str(), operands)?;
+    let syntax = options.syntax()?;
     if command.takes(&options) {
         Some(Request {
             command,
             settings: options.settings(),
+            syntax,
         })
     } else {
         None

@@ -1,5 +1,5 @@
 use Rattle.std.proofs.Common.{length, sym, subst}
-use Rattle.rdfc_cli.specs.Forms.{HasNodesBelow, IsVerdictOutput, IsVerdictStop}
+use Rattle.rdfc_cli.specs.Forms.{HasNodesBelow, IsVerdictOutput}
 use Rattle.rdfc_cli.proofs.Answering.{if_ok}
 use Rattle.rdfc_cli.proofs.Pairing.{forms-nodes_below, forms-output}
 use Rattle.rdfc_cli.proofs.comparison.output_of_forms.Goals as goal

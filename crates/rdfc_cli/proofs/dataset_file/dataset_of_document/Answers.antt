@@ -5,12 +5,10 @@ use Rattle.rdfc_cli.specs.Answers.{States}
 use Rattle.rdfc_cli.proofs.dataset_file.dataset_of_document.Goals as goal
 
 pub returns-clause-accepted : goal.returns-clause-accepted
-returns-clause-accepted c bytes within stands =
-    let parsed = c.in_ok-parsed.parsed in
-    record {
-      stated = statements parsed;
-      states = subst (λ (ls : List Label). States bytes ls (statements parsed)) (sym c.in_ok-dataset.ensures.labels) (c.in_ok-parsed.ensures.stated bytes within stands);
-      nodes_are = refl;
-      quads_are = c.in_ok-dataset.ensures.statements;
-      valid = c.node_count-nodes.ensures.valid;
-    }
+returns-clause-accepted c syntax bytes states = record {
+  stated = statements c.args.parsed;
+  states = subst (λ (ls : List Label). States syntax bytes ls (statements c.args.parsed)) (sym c.in_ok-dataset.ensures.labels) states;
+  nodes_are = refl;
+  quads_are = c.in_ok-dataset.ensures.statements;
+  valid = c.node_count-nodes.ensures.valid;
+}

@@ -1,12 +1,7 @@
-use Rattle.rdfc_cli.proofs.Reading.{accepted_as_told, fault_as_told}
+use Rattle.rdfc_cli.specs.Requests.{syntax_of}
+use Rattle.rdfc_cli.proofs.Reading.{accepted_as_told}
 use Rattle.rdfc_cli.proofs.dataset_file.read_dataset.Goals as goal
 
 pub returns-clause-accepted : goal.returns-clause-accepted
 returns-clause-accepted g c =
-    let fed = c.in_ok-reader.ensures.fed in
-    accepted_as_told _ fed.bytes fed.whole c.dataset_of_document.result (c.dataset_of_document.ensures.accepted fed.bytes fed.within fed.stands)
-
-pub returns-clause-fault : goal.returns-clause-fault
-returns-clause-fault g c =
-    let fed = c.in_ok-reader.ensures.fed in
-    fault_as_told _ fed.bytes fed.whole c.dataset_of_document.result (c.dataset_of_document.ensures.fault fed.bytes fed.within fed.stands)
+    accepted_as_told _ _ c.in_ok-parsed.parsed c.dataset_of_document.result c.in_ok-parsed.ensures.stated (c.dataset_of_document.ensures.accepted (syntax_of c.args.syntax))

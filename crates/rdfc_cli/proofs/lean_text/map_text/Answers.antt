@@ -1,6 +1,5 @@
-use Rattle.std.proofs.Common.{◌≡◌, ◌++◌, ℕ, ◌<◌, length, get_or, ap, sym, ◌∙◌, subst, arith}
+use Rattle.std.proofs.Common.{◌≡◌, ◌++◌, length, get_or, ap, ◌∙◌, arith}
 use Rattle.std.specs.Prelude.{flat_map}
-use Rattle.std.proofs.lemmas.List.Elements.{All-get_or}
 use Rattle.rdf_terms.specs.Lists.{numbers_below}
 use Rattle.rdf_terms.specs.Document.{term_at}
 use Rattle.lean_search.specs.Lean.{map_by}

@@ -11,3 +11,12 @@ returns-in-RelativeIri-clause-bytes g c = rw c.in-RelativeIri.is c.put_count-in-
 
 pub returns-in-TooManyQuads-clause-bytes : goal.returns-in-TooManyQuads-clause-bytes
 returns-in-TooManyQuads-clause-bytes g c = rw c.in-TooManyQuads.is c.put_count-in-TooManyQuads.ensures.bytes
+
+pub returns-in-BadTrig-clause-bytes : goal.returns-in-BadTrig-clause-bytes
+returns-in-BadTrig-clause-bytes g c = rw c.in-BadTrig.is c.put_count-in-BadTrig.ensures.bytes
+
+pub returns-in-UnknownPrefix-clause-bytes : goal.returns-in-UnknownPrefix-clause-bytes
+returns-in-UnknownPrefix-clause-bytes g c = rw c.in-UnknownPrefix.is c.put_count-in-UnknownPrefix.ensures.bytes
+
+pub returns-in-NoBase-clause-bytes : goal.returns-in-NoBase-clause-bytes
+returns-in-NoBase-clause-bytes g c = rw c.in-NoBase.is c.put_count-in-NoBase.ensures.bytes

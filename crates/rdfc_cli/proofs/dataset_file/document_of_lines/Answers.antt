@@ -1,4 +1,4 @@
-use Rattle.rdfc_cli.proofs.dataset_file.document_of.Goals as goal
+use Rattle.rdfc_cli.proofs.dataset_file.document_of_lines.Goals as goal
 
 pub returns-in-Ok-clause-stated : goal.returns-in-Ok-clause-stated
 returns-in-Ok-clause-stated c bytes within stands = record {
@@ -8,4 +8,4 @@ returns-in-Ok-clause-stated c bytes within stands = record {
 }
 
 pub returns-in-Err-clause-fault : goal.returns-in-Err-clause-fault
-returns-in-Err-clause-fault c bytes within stands = c.refused_by_reader.ensures bytes within (c.in-Err.ensures.err bytes stands)
+returns-in-Err-clause-fault c bytes within stands = c.refused_by_lines.ensures bytes within (c.in-Err.ensures.err bytes stands)
