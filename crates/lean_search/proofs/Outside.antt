@@ -26,8 +26,7 @@ search_begins G settled d none = record {
     kept : (st : Statement) → In st G → In (mapped_triple Blank st) G
     kept st there = subst (λ x. In x G) (sym (mapped_triple-kept Blank st (λ n e. refl))) there
 
-pub search_shrinks : (G H I : List Statement) (μ ν : ℕ → Term) (settled : ℕ → Bool) (from : ℕ) (walk : List ℕ) → IsSearching G μ H settled from → IsMapOf H walk ν → IsImage ν H I
-    → ((n : ℕ) → In n walk → settled n ≡ false) → IsSearching G (composed μ ν) I settled from
+pub search_shrinks : (G H I : List Statement) (μ ν : ℕ → Term) (settled : ℕ → Bool) (from : ℕ) (walk : List ℕ) → IsSearching G μ H settled from → IsMapOf H walk ν → IsImage ν H I → ((n : ℕ) → In n walk → settled n ≡ false) → IsSearching G (composed μ ν) I settled from
 search_shrinks G H I μ ν settled from walk s m image unmarked = record {
   shrunk = endomorphisms_compose G H I μ ν s.shrunk second;
   settled_are = λ n e. moved n (s.settled_are n e);
@@ -45,8 +44,7 @@ search_shrinks G H I μ ν settled from walk s m image unmarked = record {
       all = i.all;
     }
 
-pub search_settles : (G H : List Statement) (μ : ℕ → Term) (before after : ℕ → Bool) (from : ℕ) (walk : List ℕ) → IsSearching G μ H before from → IsSettled H walk → Marks walk before after
-    → IsSearching G μ H after from
+pub search_settles : (G H : List Statement) (μ : ℕ → Term) (before after : ℕ → Bool) (from : ℕ) (walk : List ℕ) → IsSearching G μ H before from → IsSettled H walk → Marks walk before after → IsSearching G μ H after from
 search_settles G H μ before after from walk s settled m = record {
   shrunk = s.shrunk;
   settled_are = λ n e. by n (m.only n e);
@@ -64,8 +62,7 @@ search_settles G H μ before after from walk s settled m = record {
 above : (a b : ℕ) → a ≤ b → (a ≡ b) ⊎ (a + 1 ≤ b)
 above a b l = grind arith
 
-pub search_goes_on : (G H : List Statement) (μ : ℕ → Term) (settled : ℕ → Bool) (from : ℕ) → IsSearching G μ H settled from → (settled from ≡ true) ⊎ (¬ (IsUsed H from))
-    → IsSearching G μ H settled (from + 1)
+pub search_goes_on : (G H : List Statement) (μ : ℕ → Term) (settled : ℕ → Bool) (from : ℕ) → IsSearching G μ H settled from → (settled from ≡ true) ⊎ (¬ (IsUsed H from)) → IsSearching G μ H settled (from + 1)
 search_goes_on G H μ settled from s passed = record {
   shrunk = s.shrunk;
   settled_are = s.settled_are;

@@ -16,26 +16,19 @@ pub record IsInSettled (H : List Statement) (settled : ℕ → Bool) (n : ℕ) :
   pub there : In n nodes
   pub all : (k : ℕ) → In k nodes → settled k ≡ true
 
--- H is what the map leaves of G; each marked node lies in a settled set, and no other node that is left stands before
--- `from`
-pub record IsSearching (G : List Statement) (μ : ℕ → Term) (H : List Statement) (settled : ℕ → Bool)
-    (from : ℕ) : Type 0 where
+-- H is what the map leaves of G; each marked node lies in a settled set, and no other node that is left stands before `from`
+pub record IsSearching (G : List Statement) (μ : ℕ → Term) (H : List Statement) (settled : ℕ → Bool) (from : ℕ) : Type 0 where
   pub shrunk : IsShrunk G μ H
   pub settled_are : (n : ℕ) → settled n ≡ true → IsInSettled H settled n
   pub ahead : (n : ℕ) → IsUsed H n → settled n ≡ false → from ≤ n
 
 -- it begins with the graph, with no node marked
 abbrev pub SearchBegins : Type 0
-SearchBegins =
-    (G : List Statement) (settled : ℕ → Bool) → AreDistinct G → ((n : ℕ) → settled n ≡ false)
-    → IsSearching G Blank G settled 0
+SearchBegins = (G : List Statement) (settled : ℕ → Bool) → AreDistinct G → ((n : ℕ) → settled n ≡ false) → IsSearching G Blank G settled 0
 
 -- a map of nodes that are not marked shrinks the graph, and those that were marked stay settled
 abbrev pub SearchShrinks : Type 0
-SearchShrinks =
-    (G H I : List Statement) (μ ν : ℕ → Term) (settled : ℕ → Bool) (from : ℕ) (walk : List ℕ)
-    → IsSearching G μ H settled from → IsMapOf H walk ν → IsImage ν H I → ((n : ℕ) → In n walk → settled n ≡ false)
-    → IsSearching G (composed μ ν) I settled from
+SearchShrinks = (G H I : List Statement) (μ ν : ℕ → Term) (settled : ℕ → Bool) (from : ℕ) (walk : List ℕ) → IsSearching G μ H settled from → IsMapOf H walk ν → IsImage ν H I → ((n : ℕ) → In n walk → settled n ≡ false) → IsSearching G (composed μ ν) I settled from
 
 -- the nodes of a settled component are marked
 pub record Marks (walk : List ℕ) (before after : ℕ → Bool) : Type 0 where
@@ -44,17 +37,12 @@ pub record Marks (walk : List ℕ) (before after : ℕ → Bool) : Type 0 where
   pub only : (n : ℕ) → after n ≡ true → (before n ≡ true) ⊎ In n walk
 
 abbrev pub SearchSettles : Type 0
-SearchSettles =
-    (G H : List Statement) (μ : ℕ → Term) (before after : ℕ → Bool) (from : ℕ) (walk : List ℕ)
-    → IsSearching G μ H before from → IsSettled H walk → Marks walk before after → IsSearching G μ H after from
+SearchSettles = (G H : List Statement) (μ : ℕ → Term) (before after : ℕ → Bool) (from : ℕ) (walk : List ℕ) → IsSearching G μ H before from → IsSettled H walk → Marks walk before after → IsSearching G μ H after from
 
 -- a node that is marked, or not left, is passed
 abbrev pub SearchGoesOn : Type 0
-SearchGoesOn =
-    (G H : List Statement) (μ : ℕ → Term) (settled : ℕ → Bool) (from : ℕ) → IsSearching G μ H settled from
-    → (settled from ≡ true) ⊎ (¬ (IsUsed H from)) → IsSearching G μ H settled (from + 1)
+SearchGoesOn = (G H : List Statement) (μ : ℕ → Term) (settled : ℕ → Bool) (from : ℕ) → IsSearching G μ H settled from → (settled from ≡ true) ⊎ (¬ (IsUsed H from)) → IsSearching G μ H settled (from + 1)
 
 -- when all nodes are passed, what is left is lean
 abbrev pub SearchEnds : Type 0
-SearchEnds = (G H : List Statement) (μ : ℕ → Term) (settled : ℕ → Bool) (nodes : ℕ) → IsSearching G μ H settled nodes
-    → ((n : ℕ) → IsUsed H n → n < nodes) → IsLean H
+SearchEnds = (G H : List Statement) (μ : ℕ → Term) (settled : ℕ → Bool) (nodes : ℕ) → IsSearching G μ H settled nodes → ((n : ℕ) → IsUsed H n → n < nodes) → IsLean H

@@ -43,11 +43,9 @@ pub record State : Type 0 where
 abbrev pub IsSearchedAs : Document → List ℕ → ℕ → State → State → Searched → Type 0
 IsSearchedAs d walk limit old new Tight = (new ≡ old) × IsTight (left d old.live) walk
 IsSearchedAs d walk limit old new PastLimit = (new ≡ old) × HasMoreMaps (left d old.live) (left d old.live) walk limit
-IsSearchedAs d walk limit old new Shrunk =
-    (s : Step) × (new.steps ≡ old.steps ++ s ∷ []) × IsShrinking d walk old.live new.live s
+IsSearchedAs d walk limit old new Shrunk = (s : Step) × (new.steps ≡ old.steps ++ s ∷ []) × IsShrinking d walk old.live new.live s
 
--- the steps lead from the graph of the document to what is left of it, and the search of that has come to the node
--- `from`
+-- the steps lead from the graph of the document to what is left of it, and the search of that has come to the node `from`
 pub record IsUnderway (d : Document) (s : State) (settled : ℕ → Bool) (from : ℕ) : Type 0 where
   pub μ : ℕ → Term
   pub searching : IsSearching (statements d) μ (left d s.live) settled from
