@@ -21,7 +21,8 @@ list_any-place_of (x ∷ xs) n = ap (λ b. b || list_any (eqb n) xs) (eqb-flip n
 pub place_of-position : (ks : List ℕ) (n : ℕ) → place_of ks n ≡ position (eqb n) ks
 place_of-position [] n = refl
 place_of-position (x ∷ xs) n =
-    subst (λ b. cond b (Some 0) (after_first (place_of xs n)) ≡ position (eqb n) (x ∷ xs)) (eqb-flip n x) (step (eqb n x) (position_or_len (eqb n) xs) (length xs) (place_of xs n) (place_of-position xs n))
+    subst (λ b. cond b (Some 0) (after_first (place_of xs n)) ≡ position (eqb n) (x ∷ xs)) (eqb-flip n x)
+    (step (eqb n x) (position_or_len (eqb n) xs) (length xs) (place_of xs n) (place_of-position xs n))
   where
     later : (k l : ℕ) (t : Bool) → ltb k l ≡ t → after_first (cond t (Some k) None) ≡ cond (ltb (1 + k) (suc l)) (Some (1 + k)) None
     later k l true e = let f : ltb (1 + k) (suc l) ≡ true = grind (arith, nat_tests) in let g : suc k ≡ 1 + k = omega arith in rw f (ap Some g)
@@ -44,7 +45,8 @@ place_of-push (x ∷ xs) n =
 place_of-there : (ks : List ℕ) (n : ℕ) → list_any (eqb n) ks ≡ true → place_of ks n ≡ Some (position_or_len (eqb n) ks)
 place_of-there [] n h = absurd (true≢false (sym h))
 place_of-there (x ∷ xs) n h =
-    subst (λ b. cond b (Some 0) (after_first (place_of xs n)) ≡ Some (position_or_len (eqb n) (x ∷ xs))) (eqb-flip n x) (step (eqb n x) (list_any (eqb n) xs) h (position_or_len (eqb n) xs) _ (place_of-there xs n))
+    subst (λ b. cond b (Some 0) (after_first (place_of xs n)) ≡ Some (position_or_len (eqb n) (x ∷ xs))) (eqb-flip n x)
+    (step (eqb n x) (list_any (eqb n) xs) h (position_or_len (eqb n) xs) _ (place_of-there xs n))
   where
     step : (b a : Bool) → (b || a) ≡ true → (k : ℕ) (r : Option ℕ) → (a ≡ true → r ≡ Some k) → cond b (Some 0) (after_first r) ≡ Some (cond (not b) (1 + k) 0)
     step true a h k r e = refl

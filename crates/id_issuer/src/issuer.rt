@@ -20,13 +20,14 @@ pub struct Issuer {
 
 impl Model for Issuer {
     ghost use Rattle.std.specs.Prelude.{◌<◌, ◌≤◌, length, All};
+    ghost use Rattle.rdf_terms.specs.declared.limits.TheConstants.{MOST_NUMBERS};
     ghost use Rattle.id_issuer.specs.IssuedList.{IssuedList};
 
     ghost Value = { IssuedList };
 
     ghost view = { λ i. record { prefix = i.prefix; list = i.nodes.keys } };
 
-    ghost invariant = { λ i. (length i.nodes.keys ≤ 4294967295) × All (λ n. n < 4294967295) i.nodes.keys };
+    ghost invariant = { λ i. (length i.nodes.keys ≤ MOST_NUMBERS) × All (λ n. n < MOST_NUMBERS) i.nodes.keys };
 }
 
 /// How long the list of an issuer was at some time.

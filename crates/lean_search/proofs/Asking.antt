@@ -10,6 +10,7 @@ use Rattle.rdf_terms.specs.declared.term.Term.{Term}
 use Rattle.rdf_terms.specs.declared.term.Term.TheVariants.{Blank}
 use Rattle.rdf_terms.specs.declared.term.Quad.{Quad}
 use Rattle.rdf_terms.proofs.Membership.{In-map, from_In-map}
+use Rattle.rdf_terms.proofs.MadeLists.{In-get_or, place_within}
 use Rattle.dataset_index.specs.Mentions.{places_of}
 use Rattle.graph_model.proofs.Closed.{decide_in}
 use Rattle.graph_model.proofs.Maps.{by_subject, by_object}
@@ -21,25 +22,16 @@ use Rattle.map_search.specs.Pattern.{IsAsked, IsAskedOf, IsAskedWhole, IsWhole, 
 use Rattle.map_search.specs.declared.rows.End.{End}
 use Rattle.map_search.specs.declared.rows.End.TheVariants.{Fixed, Place}
 use Rattle.map_search.specs.declared.rows.Condition.{Condition}
-use Rattle.map_search.proofs.Bridging.{number_is}
+use Rattle.map_search.proofs.Bridging.{blank-is_node, number_is}
 use Rattle.map_search.proofs.Indexing.{In-kept, kept-In, index_tells}
 use Rattle.lean_search.specs.Asked.{end_for, subject_for, object_for, condition_for, row_for}
 use Rattle.lean_search.specs.Image.{IsOneGraph, quads_left}
 use Rattle.lean_search.specs.Places.{ArePlaces}
 use Rattle.lean_search.specs.declared.places.TheConstants.{NONE}
-use Rattle.lean_search.proofs.AtNodes.{IsLeftAt, place_left, left_place, mentioned_end, In-quad_at, blank-is_node}
+use Rattle.rdf_terms.specs.declared.limits.TheConstants.{MOST_NUMBERS}
+use Rattle.lean_search.proofs.AtNodes.{IsLeftAt, place_left, left_place, mentioned_end, In-quad_at}
 
--- ---- lists
-
-pub place_in : (xs : List ℕ) (x : ℕ) → In x xs → (k : ℕ) × (k < length xs) × (get_or xs k 0 ≡ x)
-place_in [] x i = absurd i
-place_in (y ∷ ys) x (inl e) = (0, omega arith, sym e)
-place_in (y ∷ ys) x (inr i) = (let p = place_in ys x i in (suc p.0, (let l = p.1 in omega arith), p.2))
-
-pub In-get_or : (xs : List ℕ) (k : ℕ) → k < length xs → In (get_or xs k 0) xs
-In-get_or [] k l = absurd (omega arith)
-In-get_or (x ∷ xs) zero l = inl refl
-In-get_or (x ∷ xs) (suc k) l = inr (In-get_or xs k (omega arith))
+-- ---- tests
 
 decide : (x y : ℕ) → ((x == y) ≡ true) ⊎ ((x == y) ≡ false)
 decide x y = by (x == y)
@@ -63,12 +55,12 @@ three x y = grind arith
 
 -- ---- one condition
 
-module _ (terms : ℕ) (place_of own : List ℕ) (are : ArePlaces terms place_of own) (few : length own < 4294967295) where
+module _ (terms : ℕ) (place_of own : List ℕ) (are : ArePlaces terms place_of own) (few : length own < MOST_NUMBERS) where
   has_none : (x : ℕ) → get_or place_of x 0 ≡ NONE → ¬ (In x own)
   has_none x e i =
-      let p = place_in own x i in
+      let p = place_within own x 0 i in
       let f : get_or place_of x 0 ≡ p.0 = subst (λ y. get_or place_of y 0 ≡ p.0) p.2 (are.at_place p.0 p.1) in
-      let g : p.0 ≡ 4294967295 = sym f ∙ e in
+      let g : p.0 ≡ MOST_NUMBERS = sym f ∙ e in
       let l = p.1 in
       absurd (omega arith)
 
@@ -76,7 +68,8 @@ module _ (terms : ℕ) (place_of own : List ℕ) (are : ArePlaces terms place_of
   has_place x l n = by (decide_in x own)
     where
       by : In x own ⊎ (¬ (In x own)) → x ≡ get_or own (get_or place_of x 0) 0
-      by (inl i) = (let p = place_in own x i in let f : get_or place_of x 0 ≡ p.0 = subst (λ y. get_or place_of y 0 ≡ p.0) p.2 (are.at_place p.0 p.1) in sym p.2 ∙ ap (λ j. get_or own j 0) (sym f))
+      by (inl i) = (let p = place_within own x 0 i in let f : get_or place_of x 0 ≡ p.0 = subst (λ y. get_or place_of y 0 ≡ p.0) p.2 (are.at_place p.0 p.1) in sym p.2
+          ∙ ap (λ j. get_or own j 0) (sym f))
       by (inr o) = absurd (true≢false (sym (eq-eqb (get_or place_of x 0) NONE (are.elsewhere x l o)) ∙ n))
 
   other_end : (k x : ℕ) (e : End) → x < terms → end_for place_of k x ≡ Some e → IsOtherEnd own k e x
@@ -106,7 +99,8 @@ module _ (terms : ℕ) (place_of own : List ℕ) (are : ArePlaces terms place_of
   pub asked_of : (k : ℕ) (q : Quad) → q.s < terms → q.o < terms → (q.s ≡ get_or own k 0) ⊎ (q.o ≡ get_or own k 0) → IsAsked own k q (condition_for place_of k (get_or own k 0) q)
   asked_of k q ls lo touches = by (decide q.s (get_or own k 0)) (decide q.o (get_or own k 0))
     where
-      by : ((q.s == get_or own k 0) ≡ true) ⊎ ((q.s == get_or own k 0) ≡ false) → ((q.o == get_or own k 0) ≡ true) ⊎ ((q.o == get_or own k 0) ≡ false) → IsAsked own k q (condition_for place_of k (get_or own k 0) q)
+      by : ((q.s == get_or own k 0) ≡ true) ⊎ ((q.s == get_or own k 0) ≡ false) → ((q.o == get_or own k 0) ≡ true) ⊎ ((q.o == get_or own k 0) ≡ false)
+          → IsAsked own k q (condition_for place_of k (get_or own k 0) q)
       by (inl s) (inl o) = rw (s, o) (eqb-true q.s (get_or own k 0) s, refl, eqb-true q.o (get_or own k 0) o)
       by (inl s) (inr o) = rw (s, o) (asked_subject k q lo (eqb-true q.s (get_or own k 0) s) (end_for place_of k q.o) refl)
       by (inr s) (inl o) = rw s (asked_object k q ls (eqb-true q.o (get_or own k 0) o) (end_for place_of k q.s) refl)
@@ -126,29 +120,33 @@ module _ (terms : ℕ) (place_of own : List ℕ) (are : ArePlaces terms place_of
   whole_both k q t s o = (let a : (q.s == t) ≡ true = eq-eqb q.s t s in let b : (q.o == t) ≡ true = eq-eqb q.o t o in rw (a, b) tt)
 
   whole_subject : (k : ℕ) (q : Quad) (t : ℕ) → q.s ≡ t → (¬ (q.o ≡ t)) → (get_or place_of q.o 0 ≡ NONE) ⊎ (get_or place_of q.o 0 < k) → IsWhole (condition_for place_of k t q)
-  whole_subject k q t s o e = (let a : (q.s == t) ≡ true = eq-eqb q.s t s in let b : (q.o == t) ≡ false = differ q.o t o in let r = settled_end k q.o e in rw (a, b) (subst (λ w. IsWhole (subject_for q.p w)) (sym r.1) tt))
+  whole_subject k q t s o e =
+      (let a : (q.s == t) ≡ true = eq-eqb q.s t s in let b : (q.o == t) ≡ false = differ q.o t o in let r = settled_end k q.o e in rw (a, b) (subst (λ w. IsWhole (subject_for q.p w)) (sym r.1) tt))
 
   whole_object : (k : ℕ) (q : Quad) (t : ℕ) → (¬ (q.s ≡ t)) → (get_or place_of q.s 0 ≡ NONE) ⊎ (get_or place_of q.s 0 < k) → IsWhole (condition_for place_of k t q)
   whole_object k q t s e = (let a : (q.s == t) ≡ false = differ q.s t s in let r = settled_end k q.s e in rw a (subst (λ w. IsWhole (object_for q.p w)) (sym r.1) tt))
 
 -- ---- the rows
 
-pub push_row : (old : List (List Condition)) (row : List Condition) (n : ℕ) (f : ℕ → List Condition) → length old ≡ n → ((k : ℕ) → k < n → row_at old k ≡ f k) → row ≡ f n → (k : ℕ) → k < n + 1 → row_at (old ++ row ∷ []) k ≡ f k
+pub push_row : (old : List (List Condition)) (row : List Condition) (n : ℕ) (f : ℕ → List Condition) → length old ≡ n → ((k : ℕ) → k < n → row_at old k ≡ f k) → row ≡ f n → (k : ℕ) → k < n + 1
+    → row_at (old ++ row ∷ []) k ≡ f k
 push_row [] row n f e h r zero l = r ∙ ap f (sym e)
 push_row [] row n f e h r (suc k) l = absurd (omega arith)
 push_row (x ∷ xs) row n f e h r zero l = h 0 (omega arith)
 push_row (x ∷ xs) row n f e h r (suc k) l = push_row xs row (length xs) (λ j. f (suc j)) refl (λ j m. h (suc j) (omega arith)) (r ∙ ap f (sym e)) k (omega arith)
 
-pub push_rows : {A : Type 0} (f : A → List Condition) (old : List A) (x : A) (n : ℕ) (g : ℕ → List Condition) → length old ≡ n → ((k : ℕ) → k < n → row_at (map f old) k ≡ g k) → f x ≡ g n → (k : ℕ) → k < n + 1 → row_at (map f (old ++ x ∷ [])) k ≡ g k
+pub push_rows : {A : Type 0} (f : A → List Condition) (old : List A) (x : A) (n : ℕ) (g : ℕ → List Condition) → length old ≡ n → ((k : ℕ) → k < n → row_at (map f old) k ≡ g k) → f x ≡ g n → (k : ℕ)
+    → k < n + 1 → row_at (map f (old ++ x ∷ [])) k ≡ g k
 push_rows f old x n g e h r k l = ap (λ rows. row_at rows k) (map-append f old (x ∷ [])) ∙ push_row (map f old) (f x) n g (length-map old f ∙ e) h r k l
 
-pub ends_within : (d : Document) (live : List Bool) (node : ℕ) → IsOneGraph d → (k : ℕ) → In k (filter (mark_at live) (places_of (statements d) node)) → ((quad_at d.quads k).s < length d.terms) × ((quad_at d.quads k).o < length d.terms)
+pub ends_within : (d : Document) (live : List Bool) (node : ℕ) → IsOneGraph d → (k : ℕ) → In k (filter (mark_at live) (places_of (statements d) node))
+    → ((quad_at d.quads k).s < length d.terms) × ((quad_at d.quads k).o < length d.terms)
 ends_within d live node one k i =
     let r = one.in_range (quad_at d.quads k) (In-quad_at d.quads k (place_left d live node k i).within) in
     (r.s, r.o)
 
 module _ (d : Document) (live : List Bool) (one : IsOneGraph d) (place_of walk own : List ℕ)
-    (are : ArePlaces (length d.terms) place_of own) (few : length own < 4294967295)
+    (are : ArePlaces (length d.terms) place_of own) (few : length own < MOST_NUMBERS)
     (numbers : AreNumbers d.terms (quads_left d live) own walk)
     (rows : List (List Condition)) (count : length rows ≡ length walk)
     (each : (k : ℕ) → k < length walk → row_at rows k ≡ row_for d live place_of k (get_or walk k 0) (get_or own k 0)) where
@@ -166,7 +164,7 @@ module _ (d : Document) (live : List Bool) (one : IsOneGraph d) (place_of walk o
 
   own_within : (k : ℕ) → k < length walk → get_or own k 0 < length d.terms
   own_within k l =
-      let t = numbers.used (get_or own k 0) (In-get_or own k (let e = same_length in omega arith)) in
+      let t = numbers.used (get_or own k 0) (In-get_or own k 0 (let e = same_length in omega arith)) in
       let r = numbers.in_range t.triple t.there in
       elim t.end [ inl e ↦ subst (λ w. w < length d.terms) (sym e) r.s | inr e ↦ subst (λ w. w < length d.terms) (sym e) r.o ]
 
@@ -174,13 +172,24 @@ module _ (d : Document) (live : List Bool) (one : IsOneGraph d) (place_of walk o
   has_end : (k j : ℕ) → k < length walk → IsLeftAt d live (get_or walk k 0) j → ((quad_at d.quads j).s ≡ get_or own k 0) ⊎ ((quad_at d.quads j).o ≡ get_or own k 0)
   has_end k j l at =
       let r = one.in_range (quad_at d.quads j) (In-quad_at d.quads j at.within) in
-      elim (mentioned_end d one j (get_or walk k 0) at.within at.mentioned) [ inl e ↦ inl (number_is d.terms one.terms_once (quad_at d.quads j).s (get_or own k 0) r.s (own_within k l) (e ∙ sym (term_of k l))) | inr e ↦ inr (number_is d.terms one.terms_once (quad_at d.quads j).o (get_or own k 0) r.o (own_within k l) (e ∙ sym (term_of k l))) ]
+      elim (mentioned_end d one j (get_or walk k 0) at.within at.mentioned) [
+        | inl e ↦ inl
+            (number_is d.terms one.terms_once (quad_at d.quads j).s (get_or own k 0) r.s (own_within k l) (e ∙ sym (term_of k l)))
+        | inr e ↦ inr
+            (number_is d.terms one.terms_once (quad_at d.quads j).o (get_or own k 0) r.o (own_within k l) (e ∙ sym (term_of k l)))
+      ]
 
-  end_left : (k j : ℕ) → k < length walk → j < length d.quads → mark_at live j ≡ true → ((quad_at d.quads j).s ≡ get_or own k 0) ⊎ ((quad_at d.quads j).o ≡ get_or own k 0) → IsLeftAt d live (get_or walk k 0) j
+  end_left : (k j : ℕ) → k < length walk → j < length d.quads → mark_at live j ≡ true → ((quad_at d.quads j).s ≡ get_or own k 0) ⊎ ((quad_at d.quads j).o ≡ get_or own k 0)
+      → IsLeftAt d live (get_or walk k 0) j
   end_left k j l w m e = record {
     within = w;
     is_left = m;
-    mentioned = elim e [ inl s ↦ by_subject (statement d.terms (quad_at d.quads j)) (get_or walk k 0) (blank-is_node (get_or walk k 0) (term_at d.terms (quad_at d.quads j).s) (ap (term_at d.terms) s ∙ term_of k l)) | inr o ↦ by_object (statement d.terms (quad_at d.quads j)) (get_or walk k 0) (blank-is_node (get_or walk k 0) (term_at d.terms (quad_at d.quads j).o) (ap (term_at d.terms) o ∙ term_of k l)) ];
+    mentioned = elim e [
+      | inl s ↦ by_subject (statement d.terms (quad_at d.quads j)) (get_or walk k 0)
+          (blank-is_node (get_or walk k 0) (term_at d.terms (quad_at d.quads j).s) (ap (term_at d.terms) s ∙ term_of k l))
+      | inr o ↦ by_object (statement d.terms (quad_at d.quads j)) (get_or walk k 0)
+          (blank-is_node (get_or walk k 0) (term_at d.terms (quad_at d.quads j).o) (ap (term_at d.terms) o ∙ term_of k l))
+    ];
   }
 
   abbrev asks : ℕ → ℕ → Condition
@@ -202,12 +211,13 @@ module _ (d : Document) (live : List Bool) (one : IsOneGraph d) (place_of walk o
       record {
         triple = quad_at d.quads p.0;
         there = kept-In d.quads live p.0 at.within at.is_left;
-        touches = record { node = get_or own k 0; there = In-get_or own k (let e = same_length in omega arith); end = elim (has_end k p.0 m at) [ inl e ↦ inl (sym e) | inr e ↦ inr (sym e) ] };
+        touches = record { node = get_or own k 0; there = In-get_or own k 0 (let e = same_length in omega arith); end = elim (has_end k p.0 m at) [ inl e ↦ inl (sym e) | inr e ↦ inr (sym e) ] };
         asked = subst (λ w. IsAsked own k (quad_at d.quads p.0) w) (sym p.2) (asked_at k p.0 m at);
       }
 
   -- the triple is asked whole at the place, if it has a whole condition there
-  whole_at : (q : Quad) (k j : ℕ) → k < length own → j < length d.quads → mark_at live j ≡ true → quad_at d.quads j ≡ q → (q.s ≡ get_or own k 0) ⊎ (q.o ≡ get_or own k 0) → IsWhole (condition_for place_of k (get_or own k 0) q) → IsAskedWhole own rows q
+  whole_at : (q : Quad) (k j : ℕ) → k < length own → j < length d.quads → mark_at live j ≡ true → quad_at d.quads j ≡ q → (q.s ≡ get_or own k 0) ⊎ (q.o ≡ get_or own k 0)
+      → IsWhole (condition_for place_of k (get_or own k 0) q) → IsAskedWhole own rows q
   whole_at q k j l w m e touches whole =
       let n : k < length walk = (let s = same_length in omega arith) in
       let at : IsLeftAt d live (get_or walk k 0) j = end_left k j n w m (subst (λ x. (x.s ≡ get_or own k 0) ⊎ (x.o ≡ get_or own k 0)) (sym e) touches) in
@@ -227,12 +237,20 @@ module _ (d : Document) (live : List Bool) (one : IsOneGraph d) (place_of walk o
       j = In-kept q d.quads live i
 
       at : (x : ℕ) → In x own → (k : ℕ) × (k < length own) × (get_or own k 0 ≡ x) × (get_or place_of x 0 ≡ k)
-      at x h = (let p = place_in own x h in (p.0, p.1, p.2, subst (λ y. get_or place_of y 0 ≡ p.0) p.2 (are.at_place p.0 p.1)))
+      at x h = (let p = place_within own x 0 h in (p.0, p.1, p.2, subst (λ y. get_or place_of y 0 ≡ p.0) p.2 (are.at_place p.0 p.1)))
 
-      both : (a : (k : ℕ) × (k < length own) × (get_or own k 0 ≡ q.s) × (get_or place_of q.s 0 ≡ k)) (b : (k : ℕ) × (k < length own) × (get_or own k 0 ≡ q.o) × (get_or place_of q.o 0 ≡ k)) → (a.0 < b.0) ⊎ ((a.0 ≡ b.0) ⊎ (b.0 < a.0)) → IsAskedWhole own rows q
-      both a b (inl l) = whole_at q b.0 j.0 b.1 j.1 j.3 j.2 (inr (sym b.2)) (whole_object (length d.terms) place_of own are few b.0 q (get_or own b.0 0) (λ e. (let f : a.0 ≡ b.0 = sym a.3 ∙ (ap (λ x. get_or place_of x 0) (e ∙ b.2) ∙ b.3) in omega arith)) (inr (let e = a.3 in omega arith)))
-      both a b (inr (inl e)) = whole_at q a.0 j.0 a.1 j.1 j.3 j.2 (inl (sym a.2)) (whole_both (length d.terms) place_of own are few a.0 q (get_or own a.0 0) (sym a.2) (sym b.2 ∙ ap (λ k. get_or own k 0) (sym e)))
-      both a b (inr (inr l)) = whole_at q a.0 j.0 a.1 j.1 j.3 j.2 (inl (sym a.2)) (whole_subject (length d.terms) place_of own are few a.0 q (get_or own a.0 0) (sym a.2) (λ e. (let f : b.0 ≡ a.0 = sym b.3 ∙ (ap (λ x. get_or place_of x 0) (e ∙ a.2) ∙ a.3) in omega arith)) (inr (let e = b.3 in omega arith)))
+      both : (a : (k : ℕ) × (k < length own) × (get_or own k 0 ≡ q.s) × (get_or place_of q.s 0 ≡ k)) (b : (k : ℕ) × (k < length own) × (get_or own k 0 ≡ q.o) × (get_or place_of q.o 0 ≡ k))
+          → (a.0 < b.0) ⊎ ((a.0 ≡ b.0) ⊎ (b.0 < a.0)) → IsAskedWhole own rows q
+      both a b (inl l) =
+          whole_at q b.0 j.0 b.1 j.1 j.3 j.2 (inr (sym b.2))
+          (whole_object (length d.terms) place_of own are few b.0 q (get_or own b.0 0) (λ e. (let f : a.0 ≡ b.0 = sym a.3 ∙ (ap (λ x. get_or place_of x 0) (e ∙ b.2) ∙ b.3) in omega arith))
+          (inr (let e = a.3 in omega arith)))
+      both a b (inr (inl e)) =
+          whole_at q a.0 j.0 a.1 j.1 j.3 j.2 (inl (sym a.2)) (whole_both (length d.terms) place_of own are few a.0 q (get_or own a.0 0) (sym a.2) (sym b.2 ∙ ap (λ k. get_or own k 0) (sym e)))
+      both a b (inr (inr l)) =
+          whole_at q a.0 j.0 a.1 j.1 j.3 j.2 (inl (sym a.2))
+          (whole_subject (length d.terms) place_of own are few a.0 q (get_or own a.0 0) (sym a.2) (λ e. (let f : b.0 ≡ a.0 = sym b.3 ∙ (ap (λ x. get_or place_of x 0) (e ∙ a.2) ∙ a.3) in omega arith))
+          (inr (let e = b.3 in omega arith)))
 
       range : (q.s < length d.terms) × (q.o < length d.terms)
       range = (let r = numbers.in_range q i in (r.s, r.o))
@@ -241,16 +259,18 @@ module _ (d : Document) (live : List Bool) (one : IsOneGraph d) (place_of walk o
       by (inl s) (inl o) = both (at q.s s) (at q.o o) (three (at q.s s).0 (at q.o o).0)
       by (inl s) (inr o) =
           let a = at q.s s in
-          whole_at q a.0 j.0 a.1 j.1 j.3 j.2 (inl (sym a.2)) (whole_subject (length d.terms) place_of own are few a.0 q (get_or own a.0 0) (sym a.2) (λ e. o (subst (λ x. In x own) (sym (e ∙ a.2)) s)) (inl (are.elsewhere q.o range.1 o)))
+          whole_at q a.0 j.0 a.1 j.1 j.3 j.2 (inl (sym a.2))
+          (whole_subject (length d.terms) place_of own are few a.0 q (get_or own a.0 0) (sym a.2) (λ e. o (subst (λ x. In x own) (sym (e ∙ a.2)) s)) (inl (are.elsewhere q.o range.1 o)))
       by (inr s) (inl o) =
           let b = at q.o o in
-          whole_at q b.0 j.0 b.1 j.1 j.3 j.2 (inr (sym b.2)) (whole_object (length d.terms) place_of own are few b.0 q (get_or own b.0 0) (λ e. s (subst (λ x. In x own) (sym (e ∙ b.2)) o)) (inl (are.elsewhere q.s range.0 s)))
+          whole_at q b.0 j.0 b.1 j.1 j.3 j.2 (inr (sym b.2))
+          (whole_object (length d.terms) place_of own are few b.0 q (get_or own b.0 0) (λ e. s (subst (λ x. In x own) (sym (e ∙ b.2)) o)) (inl (are.elsewhere q.s range.0 s)))
       by (inr s) (inr o) = absurd (elim t.end [ inl e ↦ s (subst (λ x. In x own) e t.there) | inr e ↦ o (subst (λ x. In x own) e t.there) ])
 
   each_asked : EachIsAsked rows
   each_asked k l =
       let m : k < length walk = omega arith in
-      let t = numbers.used (get_or own k 0) (In-get_or own k (let e = same_length in omega arith)) in
+      let t = numbers.used (get_or own k 0) (In-get_or own k 0 (let e = same_length in omega arith)) in
       let j = In-kept t.triple d.quads live t.there in
       let at : IsLeftAt d live (get_or walk k 0) j.0 = end_left k j.0 m j.1 j.3 (elim t.end [ inl e ↦ inl (ap (λ (q : Quad). q.s) j.2 ∙ sym e) | inr e ↦ inr (ap (λ (q : Quad). q.o) j.2 ∙ sym e) ]) in
       (asks k j.0, in_row k j.0 m at)

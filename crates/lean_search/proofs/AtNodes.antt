@@ -12,37 +12,19 @@ use Rattle.rdf_terms.specs.declared.term.Term.{Term}
 use Rattle.rdf_terms.specs.declared.term.Term.TheVariants.{Iri, Blank, Literal}
 use Rattle.rdf_terms.specs.declared.term.Quad.{Quad}
 use Rattle.rdf_terms.proofs.Membership.{In-map, from_In-map, In-at, In-append_left, In-append_right}
-use Rattle.rdf_terms.proofs.Ranks.{from_In-numbers_below}
+use Rattle.rdf_terms.proofs.Ranks.{In-numbers_below, from_In-numbers_below}
 use Rattle.dataset_index.specs.Mentions.{mentioned_by, node_in, places_of}
 use Rattle.dataset_index.proofs.Building.{node_below}
 use Rattle.graph_model.specs.Components.{ShareTriple}
-use Rattle.graph_model.proofs.Maps.{by_subject, by_object, or_cases, eqb-itself}
+use Rattle.graph_model.proofs.Maps.{by_subject, by_object}
+use Rattle.std.proofs.lemmas.Bool.{or_cases, or_right}
 use Rattle.map_search.specs.Index.{kept, quad_at, no_quad}
 use Rattle.map_search.specs.Marks.{mark_at}
-use Rattle.map_search.proofs.Bridging.{is_node-blank}
+use Rattle.map_search.proofs.Bridging.{is_node-blank, blank-is_node}
 use Rattle.map_search.proofs.Indexing.{In-kept, kept-In}
 use Rattle.lean_search.specs.Image.{IsOneGraph, left, quads_left}
 use Rattle.lean_search.specs.Walk.{IsNear}
-use Rattle.rdf_terms.proofs.MadeLists.{from_In-filter}
-
--- ---- lists
-
-filter-In : {A : Type 0} (p : A → Bool) (xs : List A) (x : A) → In x xs → p x ≡ true → In x (filter p xs)
-filter-In p [] x i e = absurd i
-filter-In {A} p (y ∷ ys) x i e = by (p y) refl i (filter-In p ys x)
-  where
-    by : (b : Bool) → p y ≡ b → In x (y ∷ ys) → (In x ys → p x ≡ true → In x (filter p ys)) → In x (cond b (y ∷ filter p ys) (filter p ys))
-    by true f (inl g) ih = inl g
-    by true f (inr j) ih = inr (ih j e)
-    by false f (inl g) ih = absurd (true≢false (sym e ∙ (ap p g ∙ f)))
-    by false f (inr j) ih = ih j e
-
-earlier : (k n : ℕ) → k < suc n → (k < n) ⊎ (k ≡ n)
-earlier k n l = grind arith
-
-pub numbers_below-In : (n k : ℕ) → k < n → In k (numbers_below n)
-numbers_below-In zero k l = absurd (omega arith)
-numbers_below-In (suc n) k l = elim (earlier k n l) [ inl m ↦ In-append_left (numbers_below n) (n ∷ []) k (numbers_below-In n k m) | inr e ↦ In-append_right (numbers_below n) (n ∷ []) k (inl e) ]
+use Rattle.rdf_terms.proofs.MadeLists.{In-filter, from_In-filter}
 
 -- ---- the places of a node
 
@@ -69,7 +51,8 @@ left_place d live n k at =
     let m : length (statements d) ≡ length d.quads = length-map d.quads (statement d.terms) in
     let l : k < length (statements d) = (let w = at.within in omega arith) in
     let e : mentioned_by n (slice_get (statements d) k) ≡ true = ap (mentioned_by n) (at_place d k at.within) ∙ at.mentioned in
-    filter-In (mark_at live) (places_of (statements d) n) k (filter-In (λ k. mentioned_by n (slice_get (statements d) k)) (numbers_below (length (statements d))) k (numbers_below-In (length (statements d)) k l) e) at.is_left
+    In-filter (mark_at live) k (places_of (statements d) n)
+    (In-filter (λ k. mentioned_by n (slice_get (statements d) k)) k (numbers_below (length (statements d))) (In-numbers_below (length (statements d)) k l) e) at.is_left
 
 pub place_of_node : (d : Document) (n k : ℕ) → In k (places_of (statements d) n) → (k < length d.quads) × (mentions n (statement d.terms (quad_at d.quads k)) ≡ true)
 place_of_node d n k i =
@@ -115,21 +98,34 @@ node_in-blank (Blank m) n e = ap Blank (same e)
     same f = cc
 node_in-blank (Literal l) n e = cc
 
-pub blank-is_node : (n : ℕ) (t : Term) → t ≡ Blank n → is_node n t ≡ true
-blank-is_node n t e = ap (is_node n) e ∙ eqb-itself n
-
 pub In-quad_at : (quads : List Quad) (k : ℕ) → k < length quads → In (quad_at quads k) quads
 In-quad_at quads k l = In-at quads k (quad_at quads k) (slice_get-get_or quads k no_quad l)
 
 -- a node that a triple without a graph name mentions is one of its ends
-pub mentioned_end : (d : Document) → IsOneGraph d → (k n : ℕ) → k < length d.quads → mentions n (statement d.terms (quad_at d.quads k)) ≡ true → (term_at d.terms (quad_at d.quads k).s ≡ Blank n) ⊎ (term_at d.terms (quad_at d.quads k).o ≡ Blank n)
-mentioned_end d one k n l m = elim (or_cases (is_node n (term_at d.terms (quad_at d.quads k).s)) _ m) [ inl s ↦ inl (is_node-blank n (term_at d.terms (quad_at d.quads k).s) s) | inr r ↦ elim (or_cases (is_node n (term_at d.terms (quad_at d.quads k).o)) (is_named_by n (graph_name_at d.terms (quad_at d.quads k).g)) r) [ inl o ↦ inr (is_node-blank n (term_at d.terms (quad_at d.quads k).o) o) | inr g ↦ absurd (true≢false (sym g ∙ ap (λ w. is_named_by n (graph_name_at d.terms w)) (one.unnamed (quad_at d.quads k) (In-quad_at d.quads k l)))) ] ]
+pub mentioned_end : (d : Document) → IsOneGraph d → (k n : ℕ) → k < length d.quads → mentions n (statement d.terms (quad_at d.quads k)) ≡ true
+    → (term_at d.terms (quad_at d.quads k).s ≡ Blank n) ⊎ (term_at d.terms (quad_at d.quads k).o ≡ Blank n)
+mentioned_end d one k n l m =
+    elim (or_cases (is_node n (term_at d.terms (quad_at d.quads k).s)) _ m) [
+      | inl s ↦ inl
+          (is_node-blank n (term_at d.terms (quad_at d.quads k).s) s)
+      | inr r ↦ elim (or_cases (is_node n (term_at d.terms (quad_at d.quads k).o))
+          (is_named_by n (graph_name_at d.terms (quad_at d.quads k).g)) r) [
+            | inl o ↦ inr (is_node-blank n (term_at d.terms (quad_at d.quads k).o) o)
+            | inr g ↦ absurd
+                (true≢false (sym g ∙ ap (λ w. is_named_by n (graph_name_at d.terms w)) (one.unnamed (quad_at d.quads k) (In-quad_at d.quads k l))))
+          ]
+    ]
 
 -- a node that is mentioned is one of the document
 pub node_within : (d : Document) → IsOneGraph d → (k n : ℕ) → k < length d.quads → mentions n (statement d.terms (quad_at d.quads k)) ≡ true → n < length d.labels
 node_within d one k n l m =
     let r = one.in_range (quad_at d.quads k) (In-quad_at d.quads k l) in
-    elim (mentioned_end d one k n l m) [ inl e ↦ node_below d one.document n (quad_at d.quads k).s (slice_get-get_or d.terms (quad_at d.quads k).s (Blank 0) r.s ∙ ap Some e) | inr e ↦ node_below d one.document n (quad_at d.quads k).o (slice_get-get_or d.terms (quad_at d.quads k).o (Blank 0) r.o ∙ ap Some e) ]
+    elim (mentioned_end d one k n l m) [
+      | inl e ↦ node_below d one.document n (quad_at d.quads k).s
+          (slice_get-get_or d.terms (quad_at d.quads k).s (Blank 0) r.s ∙ ap Some e)
+      | inr e ↦ node_below d one.document n (quad_at d.quads k).o
+          (slice_get-get_or d.terms (quad_at d.quads k).o (Blank 0) r.o ∙ ap Some e)
+    ]
 
 pub used_within : (d : Document) (live : List Bool) → IsOneGraph d → (n : ℕ) → IsUsed (left d live) n → n < length d.labels
 used_within d live one n u = (let p = left_used d live n u in node_within d one p.0 n p.1.within p.1.mentioned)
@@ -155,7 +151,12 @@ near_shares d live node n near =
       triple = statement d.terms (quad_at d.quads near.place);
       there = In-left d live near.place at.within at.is_left;
       mentions_first = at.mentioned;
-      mentions_second = elim near.end [ inl e ↦ by_subject (statement d.terms (quad_at d.quads near.place)) n (blank-is_node n (term_at d.terms (quad_at d.quads near.place).s) (node_in-blank (term_at d.terms (quad_at d.quads near.place).s) n e)) | inr e ↦ by_object (statement d.terms (quad_at d.quads near.place)) n (blank-is_node n (term_at d.terms (quad_at d.quads near.place).o) (node_in-blank (term_at d.terms (quad_at d.quads near.place).o) n e)) ];
+      mentions_second = elim near.end [
+        | inl e ↦ by_subject (statement d.terms (quad_at d.quads near.place)) n
+            (blank-is_node n (term_at d.terms (quad_at d.quads near.place).s) (node_in-blank (term_at d.terms (quad_at d.quads near.place).s) n e))
+        | inr e ↦ by_object
+            (statement d.terms (quad_at d.quads near.place)) n (blank-is_node n (term_at d.terms (quad_at d.quads near.place).o) (node_in-blank (term_at d.terms (quad_at d.quads near.place).o) n e))
+      ];
     }
 
 pub shares_near : (d : Document) (live : List Bool) → IsOneGraph d → (node n : ℕ) → ShareTriple (left d live) node n → IsNear d (filter (mark_at live) (places_of (statements d) node)) n
@@ -180,11 +181,7 @@ any_In p (x ∷ xs) e = by (p x) refl e (any_In p xs)
 In-any : (p : ℕ → Bool) (xs : List ℕ) (x : ℕ) → In x xs → p x ≡ true → list_any p xs ≡ true
 In-any p [] x i e = absurd i
 In-any p (y ∷ ys) x (inl f) e = (let g : p y ≡ true = ap p (sym f) ∙ e in rw g refl)
-In-any p (y ∷ ys) x (inr i) e = or_true (p y) (list_any p ys) (In-any p ys x i e)
-  where
-    or_true : (a b : Bool) → b ≡ true → (a || b) ≡ true
-    or_true true b h = refl
-    or_true false b h = h
+In-any p (y ∷ ys) x (inr i) e = or_right (p y) (list_any p ys) (In-any p ys x i e)
 
 pub any_left : (d : Document) (live : List Bool) (n : ℕ) → (list_any (mark_at live) (places_of (statements d) n) ≡ true) ↔ IsUsed (left d live) n
 any_left d live n = (to, from)

@@ -23,7 +23,8 @@ mapped-composed μ ν (Iri t) = refl
 mapped-composed μ ν (Blank n) = refl
 mapped-composed μ ν (Literal l) = refl
 
-pub agrees_composed : (terms : List Term) (μ ν : ℕ → Term) (steps : List Step) (s : Step) → Agrees terms μ (map_by_steps steps) → Agrees terms ν (map_of s.terms.items s.images.items) → Agrees terms (composed μ ν) (map_by_steps (steps ++ s ∷ []))
+pub agrees_composed : (terms : List Term) (μ ν : ℕ → Term) (steps : List Step) (s : Step) → Agrees terms μ (map_by_steps steps) → Agrees terms ν (map_of s.terms.items s.images.items)
+    → Agrees terms (composed μ ν) (map_by_steps (steps ++ s ∷ []))
 agrees_composed terms μ ν steps s a b = record {
   within = λ k l. subst (λ n. n < length terms) (sym (map_by_steps-push steps s k)) (b.within (map_by_steps steps k) (a.within k l));
   same = λ k l. ap (term_at terms) (map_by_steps-push steps s k) ∙ (b.same (map_by_steps steps k) (a.within k l) ∙ (ap (mapped ν) (a.same k l) ∙ mapped-composed μ ν (term_at terms k)));
@@ -42,7 +43,8 @@ put_all-kept to (t ∷ ts) [] n out = refl
 put_all-kept to (t ∷ ts) (v ∷ vs) n out = put_all-kept (set to t v) ts vs n (λ i. out (inr i)) ∙ get_or-set_other to t n v 0 (λ e. out (inl e))
 
 -- the list says where each term is taken to after the step
-pub put_all-map_of : (to old terms images : List ℕ) → AreDistinct terms → length images ≡ length terms → All (λ t. t < length to) terms → (n : ℕ) → ((¬ (In n terms)) → get_or to n 0 ≡ get_or old n 0) → get_or (put_all to terms (map (λ x. get_or old x 0) images)) n 0 ≡ get_or old (map_of terms images n) 0
+pub put_all-map_of : (to old terms images : List ℕ) → AreDistinct terms → length images ≡ length terms → All (λ t. t < length to) terms → (n : ℕ) → ((¬ (In n terms)) → get_or to n 0 ≡ get_or old n 0)
+    → get_or (put_all to terms (map (λ x. get_or old x 0) images)) n 0 ≡ get_or old (map_of terms images n) 0
 put_all-map_of to old [] images d c w n k = k (λ h. h)
 put_all-map_of to old (t ∷ ts) [] d c w n k = absurd (omega arith)
 put_all-map_of to old (t ∷ ts) (v ∷ vs) d c w n k = by (t == n) refl (put_all-map_of (set to t (get_or old v 0)) old ts vs d.1 (omega arith) rest n)
@@ -53,7 +55,10 @@ put_all-map_of to old (t ∷ ts) (v ∷ vs) d c w n k = by (t == n) refl (put_al
     rest : All (λ x. x < length (set to t (get_or old v 0))) ts
     rest = λ k e l. subst (λ m. get_or ts k e < m) (sym (length-set to t (get_or old v 0))) (w (suc k) e (omega arith))
 
-    by : (b : Bool) → (t == n) ≡ b → (((¬ (In n ts)) → get_or (set to t (get_or old v 0)) n 0 ≡ get_or old n 0) → get_or (put_all (set to t (get_or old v 0)) ts (map (λ x. get_or old x 0) vs)) n 0 ≡ get_or old (map_of ts vs n) 0) → get_or (put_all (set to t (get_or old v 0)) ts (map (λ x. get_or old x 0) vs)) n 0 ≡ get_or old (if b then v else map_of ts vs n) 0
+    by : (b : Bool) → (t == n) ≡ b
+        → (((¬ (In n ts)) → get_or (set to t (get_or old v 0)) n 0 ≡ get_or old n 0)
+        → get_or (put_all (set to t (get_or old v 0)) ts (map (λ x. get_or old x 0) vs)) n 0 ≡ get_or old (map_of ts vs n) 0)
+        → get_or (put_all (set to t (get_or old v 0)) ts (map (λ x. get_or old x 0) vs)) n 0 ≡ get_or old (if b then v else map_of ts vs n) 0
     by true e ih =
         let f : t ≡ n = eqb-true t n e in
         put_all-kept (set to t (get_or old v 0)) ts (map (λ x. get_or old x 0) vs) n (subst (λ x. ¬ (In x ts)) f d.0)
@@ -82,7 +87,9 @@ drop-next [] k d l = absurd (omega arith)
 drop-next (s ∷ ss) zero d l = refl
 drop-next (s ∷ ss) (suc k) d l = drop-next ss k d (omega arith)
 
-pub one_before : (steps : List Step) (at : ℕ) (s : Step) (before after : List ℕ) (terms : ℕ) → 0 < at → at ≤ length steps → s ≡ get_or steps (at - 1) s → All (λ t. t < terms) s.images.items → ((k : ℕ) → k < terms → get_or before k 0 ≡ map_by_steps (drop at steps) k) → ((k : ℕ) → k < terms → get_or after k 0 ≡ get_or before (map_of s.terms.items s.images.items k) 0) → (k : ℕ) → k < terms → get_or after k 0 ≡ map_by_steps (drop (at - 1) steps) k
+pub one_before : (steps : List Step) (at : ℕ) (s : Step) (before after : List ℕ) (terms : ℕ) → 0 < at → at ≤ length steps → s ≡ get_or steps (at - 1) s → All (λ t. t < terms) s.images.items
+    → ((k : ℕ) → k < terms → get_or before k 0 ≡ map_by_steps (drop at steps) k) → ((k : ℕ) → k < terms → get_or after k 0 ≡ get_or before (map_of s.terms.items s.images.items k) 0) → (k : ℕ)
+    → k < terms → get_or after k 0 ≡ map_by_steps (drop (at - 1) steps) k
 one_before steps at s before after terms some l e range h g k m =
     let w : map_of s.terms.items s.images.items k < terms = map_of-within s.terms.items s.images.items terms k m range in
     let f : drop (at - 1) steps ≡ get_or steps (at - 1) s ∷ drop (suc (at - 1)) steps = drop-next steps (at - 1) s (omega arith) in

@@ -6,21 +6,13 @@ use Rattle.rdf_terms.proofs.Membership.{In-take}
 use Rattle.graph_model.proofs.Closed.{decide_in}
 use Rattle.lean_search.specs.Places.{AreNoPlaces, ArePlaces}
 use Rattle.lean_search.specs.declared.places.TheConstants.{NONE}
-use Rattle.lean_search.proofs.Asking.{In-get_or, place_in}
+use Rattle.rdf_terms.proofs.MadeLists.{one_place_within, place_within}
 
 same_or_other : (x y : ℕ) → (x ≡ y) ⊎ (¬ (x ≡ y))
 same_or_other x y = grind arith
 
 below_or_last : (k n : ℕ) → k < n + 1 → (k < n) ⊎ (k ≡ n)
 below_or_last k n l = grind arith
-
--- two places of one number are one
-one_place : (xs : List ℕ) (j k : ℕ) → AreDistinct xs → j < length xs → k < length xs → get_or xs j 0 ≡ get_or xs k 0 → j ≡ k
-one_place [] j k d l m e = absurd (omega arith)
-one_place (x ∷ xs) zero zero d l m e = refl
-one_place (x ∷ xs) zero (suc k) d l m e = absurd (d.0 (subst (λ y. In y xs) (sym e) (In-get_or xs k (omega arith))))
-one_place (x ∷ xs) (suc j) zero d l m e = absurd (d.0 (subst (λ y. In y xs) e (In-get_or xs j (omega arith))))
-one_place (x ∷ xs) (suc j) (suc k) d l m e = ap suc (one_place xs j k d.1 (omega arith) (omega arith) e)
 
 take_less : (xs : List ℕ) (n x : ℕ) → In x (take n xs) → In x (take (suc n) xs)
 take_less [] zero x i = absurd i
@@ -46,14 +38,16 @@ pub record AreNoted (first now terms : List ℕ) (n : ℕ) : Type 0 where
   pub noted : (k : ℕ) → k < n → get_or now (get_or terms k 0) 0 ≡ k
   pub others : (t : ℕ) → (¬ (In t (take n terms))) → get_or now t 0 ≡ get_or first t 0
 
-pub noted_next : (first now terms : List ℕ) (n : ℕ) → n < length terms → AreDistinct terms → get_or terms n 0 < length now → AreNoted first now terms n → AreNoted first (set now (get_or terms n 0) n) terms (n + 1)
+pub noted_next : (first now terms : List ℕ) (n : ℕ) → n < length terms → AreDistinct terms → get_or terms n 0 < length now → AreNoted first now terms n
+    → AreNoted first (set now (get_or terms n 0) n) terms (n + 1)
 noted_next first now terms n l d w h = record {
   noted = λ k m. at k m (below_or_last k n m);
-  others = λ t out. get_or-set_other now (get_or terms n 0) t n 0 (λ e. out (subst (λ x. In x (take (n + 1) terms)) (sym e) (In-take-last terms n l))) ∙ h.others t (λ i. out (In-take-less terms n t i));
+  others = λ t out. get_or-set_other now (get_or terms n 0) t n 0 (λ e. out (subst (λ x. In x (take (n + 1) terms)) (sym e) (In-take-last terms n l)))
+      ∙ h.others t (λ i. out (In-take-less terms n t i));
 }
   where
     at : (k : ℕ) → k < n + 1 → (k < n) ⊎ (k ≡ n) → get_or (set now (get_or terms n 0) n) (get_or terms k 0) 0 ≡ k
-    at k m (inl b) = get_or-set_other now (get_or terms n 0) (get_or terms k 0) n 0 (λ e. (let f : k ≡ n = one_place terms k n d (omega arith) l e in omega arith)) ∙ h.noted k b
+    at k m (inl b) = get_or-set_other now (get_or terms n 0) (get_or terms k 0) n 0 (λ e. (let f : k ≡ n = one_place_within terms k n 0 d (omega arith) l e in omega arith)) ∙ h.noted k b
     at k m (inr e) = subst (λ j. get_or (set now (get_or terms n 0) n) (get_or terms j 0) 0 ≡ j) (sym e) (get_or-set_same now (get_or terms n 0) n 0 w)
 
 pub none_noted : (first terms : List ℕ) → AreNoted first first terms 0
@@ -93,9 +87,10 @@ cleared_next first now terms n w h = record { cleared = λ k m. at k (below_or_l
     other t (inl e) = inl (here t e)
     other t (inr o) = elim (h.others t) [ inl f ↦ inl (get_or-set_other now (get_or terms n 0) t NONE 0 o ∙ f) | inr f ↦ inr (get_or-set_other now (get_or terms n 0) t NONE 0 o ∙ f) ]
 
-pub all_cleared : (first now terms : List ℕ) (n : ℕ) → length terms ≤ n → length now ≡ length first → ArePlaces (length first) first terms → AreCleared first now terms n → AreNoPlaces (length first) now
+pub all_cleared : (first now terms : List ℕ) (n : ℕ) → length terms ≤ n → length now ≡ length first → ArePlaces (length first) first terms → AreCleared first now terms n
+    → AreNoPlaces (length first) now
 all_cleared first now terms n l e places h = record { count = e; none = λ t m. by t m (decide_in t terms) }
   where
     by : (t : ℕ) → t < length first → In t terms ⊎ (¬ (In t terms)) → get_or now t 0 ≡ NONE
-    by t m (inl i) = (let p = place_in terms t i in subst (λ x. get_or now x 0 ≡ NONE) p.2 (h.cleared p.0 (let b = p.1 in omega arith)))
+    by t m (inl i) = (let p = place_within terms t 0 i in subst (λ x. get_or now x 0 ≡ NONE) p.2 (h.cleared p.0 (let b = p.1 in omega arith)))
     by t m (inr o) = elim (h.others t) [ inl f ↦ f | inr f ↦ f ∙ places.elsewhere t m o ]

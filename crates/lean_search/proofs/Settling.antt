@@ -17,7 +17,7 @@ use Rattle.graph_model.specs.Components.{IsClosed, IsComponentWalk, IsMapOf, IsT
 use Rattle.graph_model.specs.Counts.{HasMoreMaps, IsPastSearch}
 use Rattle.graph_model.specs.Laws.{IsSettled}
 use Rattle.graph_model.proofs.Counting.{length-within}
-use Rattle.rdf_terms.proofs.Ranks.{length-numbers_below}
+use Rattle.rdf_terms.proofs.Ranks.{In-numbers_below, length-numbers_below}
 use Rattle.map_search.specs.Index.{kept, quad_at}
 use Rattle.map_search.specs.Laws.{IsInTriple}
 use Rattle.map_search.specs.Marks.{mark_at}
@@ -33,7 +33,7 @@ use Rattle.lean_search.specs.declared.component.Searched.TheVariants.{Tight, Shr
 use Rattle.lean_search.specs.Steps.{AreSteps, IsStep, map_by_steps}
 use Rattle.lean_search.specs.Walk.{IsWalk, IsWalkFrom}
 use Rattle.lean_search.specs.declared.steps.Step.{Step}
-use Rattle.lean_search.proofs.AtNodes.{IsLeftAt, left_used, mentioned_end, used_within, In-quad_at, numbers_below-In}
+use Rattle.lean_search.proofs.AtNodes.{IsLeftAt, left_used, mentioned_end, used_within, In-quad_at}
 use Rattle.lean_search.proofs.Composing.{agrees_composed}
 use Rattle.lean_search.proofs.Outside.{search_begins, search_shrinks, search_settles, search_goes_on, search_ends}
 use Rattle.lean_search.proofs.Shrinking.{fewer_left, is_image}
@@ -76,7 +76,7 @@ walk_some G walk w = (let e = ap length w.1.walk_is in omega arith)
 -- numbers of terms, each once, are fewer than the places that there may be
 pub own_few : (d : Document) (own : List ℕ) → IsOneGraph d → AreDistinct own → ((k : ℕ) → In k own → k < length d.terms) → length own < 4294967295
 own_few d own one once within =
-    let a : length own ≤ length (numbers_below (length d.terms)) = length-within own (numbers_below (length d.terms)) once (λ k i. numbers_below-In (length d.terms) k (within k i)) in
+    let a : length own ≤ length (numbers_below (length d.terms)) = length-within own (numbers_below (length d.terms)) once (λ k i. In-numbers_below (length d.terms) k (within k i)) in
     let b : length (numbers_below (length d.terms)) ≡ length d.terms = length-numbers_below (length d.terms) in
     let c = one.document.draft.terms_bound in
     let e = one.document.draft.quads_bound in

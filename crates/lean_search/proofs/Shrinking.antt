@@ -19,12 +19,12 @@ use Rattle.map_search.specs.Index.{kept, quad_at, no_quad}
 use Rattle.map_search.specs.Marks.{mark_at}
 use Rattle.map_search.specs.Numbers.{Agrees, IsSaidBy}
 use Rattle.map_search.specs.Pattern.{carried, map_of, IsReachedBy, Misses}
-use Rattle.map_search.proofs.Bridging.{statement_carried, in_range_carried}
+use Rattle.map_search.proofs.Bridging.{blank-is_node, statement_carried, in_range_carried}
 use Rattle.map_search.proofs.Images.{map_of-kept}
 use Rattle.map_search.proofs.Indexing.{In-kept, kept-In}
 use Rattle.lean_search.specs.Image.{IsOneGraph, AreTermsOf, IsPlaceOfWalk, IsReachedFrom, LeavesReached, left, quads_left}
 use Rattle.lean_search.specs.Searched.{count_left}
-use Rattle.lean_search.proofs.AtNodes.{In-left, In-quad_at, HasPlace, has_place, blank-is_node}
+use Rattle.lean_search.proofs.AtNodes.{In-left, In-quad_at, HasPlace, has_place}
 use Rattle.rdf_terms.proofs.MadeLists.{AreDistinct-map}
 
 -- ---- lists
@@ -33,7 +33,7 @@ decide_end : (b : Bool) → (b ≡ true) ⊎ (b ≡ false)
 decide_end true = inl refl
 decide_end false = inr refl
 
-In-kept-quads : (q : Quad) (quads : List Quad) (live : List Bool) → In q (kept quads live) → In q quads
+pub In-kept-quads : (q : Quad) (quads : List Quad) (live : List Bool) → In q (kept quads live) → In q quads
 In-kept-quads q quads live i = (let p = In-kept q quads live i in subst (λ x. In x quads) p.2 (In-quad_at quads p.0 p.1))
 
 pub AreDistinct-kept : (quads : List Quad) (live : List Bool) → AreDistinct quads → AreDistinct (kept quads live)
@@ -70,10 +70,30 @@ module _ (d : Document) (one : IsOneGraph d) (live now after : List Bool) (walk 
   elsewhere k l e out = λ i. record { s = s i; p = (quad_at d.quads k).p; o = o i; g = (quad_at d.quads k).g }
     where
       s : m (quad_at d.quads k).s ≡ (quad_at d.quads k).s
-      s = map_of-kept own images (quad_at d.quads k).s (λ i. (let p = node_of_term (quad_at d.quads k).s i in out ((places_are k).1 (record { within = l; is_left = e; node = p.0; there = p.1; mentioned = by_subject (statement d.terms (quad_at d.quads k)) p.0 (blank-is_node p.0 (term_at d.terms (quad_at d.quads k).s) p.2) }))))
+      s = map_of-kept own images (quad_at d.quads k).s
+          (λ i. (let p = node_of_term (quad_at d.quads k).s i in out
+          ((places_are k).1
+          (record {
+            within = l;
+            is_left = e;
+            node = p.0;
+            there = p.1;
+            mentioned = by_subject (statement d.terms (quad_at d.quads k)) p.0
+                (blank-is_node p.0 (term_at d.terms (quad_at d.quads k).s) p.2);
+          }))))
 
       o : m (quad_at d.quads k).o ≡ (quad_at d.quads k).o
-      o = map_of-kept own images (quad_at d.quads k).o (λ i. (let p = node_of_term (quad_at d.quads k).o i in out ((places_are k).1 (record { within = l; is_left = e; node = p.0; there = p.1; mentioned = by_object (statement d.terms (quad_at d.quads k)) p.0 (blank-is_node p.0 (term_at d.terms (quad_at d.quads k).o) p.2) }))))
+      o = map_of-kept own images (quad_at d.quads k).o
+          (λ i. (let p = node_of_term (quad_at d.quads k).o i in out
+          ((places_are k).1
+          (record {
+            within = l;
+            is_left = e;
+            node = p.0;
+            there = p.1;
+            mentioned = by_object (statement d.terms (quad_at d.quads k)) p.0
+                (blank-is_node p.0 (term_at d.terms (quad_at d.quads k).o) p.2);
+          }))))
 
   reached_by : (k : ℕ) → k < length d.quads → mark_at after k ≡ true → IsReachedBy m H (quad_at d.quads k)
   reached_by k l e = by (decide_in k reached) (decide_in k places)
@@ -126,9 +146,14 @@ module _ (d : Document) (one : IsOneGraph d) (before after : List Bool) (walk : 
       let p = has_place d before st there in
       let t = has_place d before (mapped_triple ν st) (said.is_map.endomorphism st there) in
       let r = range_at p.place p.within in
-      let e : statement d.terms (quad_at d.quads t.place) ≡ statement d.terms (carried m (quad_at d.quads p.place)) = sym t.is ∙ (ap (mapped_triple ν) p.is ∙ sym (said_of (quad_at d.quads p.place) r)) in
-      let same : quad_at d.quads t.place ≡ carried m (quad_at d.quads p.place) = statement_injective d.terms one.terms_once (quad_at d.quads t.place) (carried m (quad_at d.quads p.place)) (range_at t.place t.within) (in_range_carried d.terms one.terms_once ν m said.agrees (quad_at d.quads p.place) r) e in
-      let reached : IsReachedBy m (quads_left d before) (quad_at d.quads t.place) = subst (λ q. In q (map (carried m) (quads_left d before))) (sym same) (In-map (carried m) (quads_left d before) (quad_at d.quads p.place) (kept-In d.quads before p.place p.within p.is_left)) in
+      let e : statement d.terms (quad_at d.quads t.place) ≡ statement d.terms (carried m (quad_at d.quads p.place)) = sym t.is
+      ∙ (ap (mapped_triple ν) p.is ∙ sym (said_of (quad_at d.quads p.place) r)) in
+      let same : quad_at d.quads t.place
+      ≡ carried m (quad_at d.quads p.place) =
+      statement_injective d.terms one.terms_once (quad_at d.quads t.place) (carried m (quad_at d.quads p.place)) (range_at t.place t.within)
+      (in_range_carried d.terms one.terms_once ν m said.agrees (quad_at d.quads p.place) r) e in
+      let reached : IsReachedBy m (quads_left d before) (quad_at d.quads t.place) = subst (λ q. In q (map (carried m) (quads_left d before))) (sym same)
+      (In-map (carried m) (quads_left d before) (quad_at d.quads p.place) (kept-In d.quads before p.place p.within p.is_left)) in
       subst (λ x. In x (left d after)) (sym t.is) (In-left d after t.place t.within ((leaves t.place t.within).1 reached))
 
   nothing_else : (st : Statement) → In st (left d after) → IsReached ν (left d before) st
@@ -141,7 +166,9 @@ module _ (d : Document) (one : IsOneGraph d) (before after : List Bool) (walk : 
 
   pub is_image : IsImage ν (left d before) (left d after)
   is_image = record {
-    distinct = AreDistinct-map (statement d.terms) (quads_left d after) (λ x y i j e. statement_injective d.terms one.terms_once x y (one.in_range x (In-kept-quads x d.quads after i)) (one.in_range y (In-kept-quads y d.quads after j)) e) (AreDistinct-kept d.quads after one.quads_once);
+    distinct = AreDistinct-map (statement d.terms) (quads_left d after)
+        (λ x y i j e. statement_injective d.terms one.terms_once x y (one.in_range x (In-kept-quads x d.quads after i)) (one.in_range y (In-kept-quads y d.quads after j)) e)
+        (AreDistinct-kept d.quads after one.quads_once);
     carried = carries;
     nothing_else = nothing_else;
   }
@@ -149,9 +176,11 @@ module _ (d : Document) (one : IsOneGraph d) (before after : List Bool) (walk : 
   -- a triple that is left was there before
   was_left : (k : ℕ) → k < length d.quads → mark_at after k ≡ true → mark_at before k ≡ true
   was_left k l e =
-      let i = image_lies_within (left d before) (left d after) ν (record { endomorphism = said.is_map.endomorphism; is_image = is_image }) (statement d.terms (quad_at d.quads k)) (In-left d after k l e) in
+      let i = image_lies_within (left d before) (left d after) ν (record { endomorphism = said.is_map.endomorphism; is_image = is_image }) (statement d.terms (quad_at d.quads k))
+      (In-left d after k l e) in
       let p = has_place d before (statement d.terms (quad_at d.quads k)) i in
-      let same : quad_at d.quads k ≡ quad_at d.quads p.place = statement_injective d.terms one.terms_once (quad_at d.quads k) (quad_at d.quads p.place) (range_at k l) (range_at p.place p.within) p.is in
+      let same : quad_at d.quads k
+      ≡ quad_at d.quads p.place = statement_injective d.terms one.terms_once (quad_at d.quads k) (quad_at d.quads p.place) (range_at k l) (range_at p.place p.within) p.is in
       subst (λ j. mark_at before j ≡ true) (sym (one_quad_place d.quads k p.place one.quads_once l p.within same)) p.is_left
 
   -- ---- fewer are left
@@ -167,7 +196,8 @@ module _ (d : Document) (one : IsOneGraph d) (before after : List Bool) (walk : 
       by false true h ih = omega arith
       by false false h ih = ih
 
-  one_less : (xs ys : List Bool) → length xs ≡ length ys → ((k : ℕ) → k < length xs → mark_at xs k ≡ true → mark_at ys k ≡ true) → (k : ℕ) → mark_at ys k ≡ true → ¬ (mark_at xs k ≡ true) → count_left xs < count_left ys
+  one_less : (xs ys : List Bool) → length xs ≡ length ys → ((k : ℕ) → k < length xs → mark_at xs k ≡ true → mark_at ys k ≡ true) → (k : ℕ) → mark_at ys k ≡ true → ¬ (mark_at xs k ≡ true)
+      → count_left xs < count_left ys
   one_less [] [] e h k y n = absurd (true≢false (sym y))
   one_less [] (y ∷ ys) e h k t n = absurd (omega arith)
   one_less (x ∷ xs) [] e h k y n = absurd (omega arith)

@@ -62,7 +62,12 @@ module _ (d : Document) (live : List Bool) (one : IsOneGraph d) (walk : List ℕ
   fresh_now n f i = true≢false (sym ((walked_now n).1 i) ∙ f)
 
   to_follow : (n : ℕ) → mark_at after n ≡ true → MayFollow G longer n
-  to_follow n m = elim ((noted n).0 m) [ inl b ↦ earlier b (same_or_other n node) | inr p ↦ record { other = node; is_taken = In-append_right walk (node ∷ []) node (inl refl); share = near_shares d live node n p.0; fresh = fresh_now n p.1 } ]
+  to_follow n m =
+      elim ((noted n).0 m) [
+        | inl b ↦ earlier b
+            (same_or_other n node)
+        | inr p ↦ record { other = node; is_taken = In-append_right walk (node ∷ []) node (inl refl); share = near_shares d live node n p.0; fresh = fresh_now n p.1 }
+      ]
     where
       earlier : mark_at before n ≡ true → (n ≡ node) ⊎ (¬ (n ≡ node)) → MayFollow G longer n
       earlier b (inl e) = absurd (true≢false (sym b ∙ (ap (mark_at before) e ∙ here)))
@@ -102,7 +107,8 @@ next_none G walk walked ahead w none y m =
 
 -- ---- the walk
 
-pub walk_on : (G : List Statement) (start : ℕ) (walk : List ℕ) (node : ℕ) (next : Option ℕ) → HasWalked G start walk (Some node) → IsNextOf G (walk ++ node ∷ []) next → HasWalked G start (walk ++ node ∷ []) next
+pub walk_on : (G : List Statement) (start : ℕ) (walk : List ℕ) (node : ℕ) (next : Option ℕ) → HasWalked G start walk (Some node) → IsNextOf G (walk ++ node ∷ []) next
+    → HasWalked G start (walk ++ node ∷ []) next
 walk_on G start [] node next w n = (let e : node ≡ start = same w in (e, tt, n))
   where
     same : Some node ≡ Some start → node ≡ start
@@ -111,7 +117,8 @@ walk_on G start (x ∷ rest) node next w n = (w.0, WalksTo-push G (start ∷ [])
 
 pub walk_whole : (G : List Statement) (start : ℕ) (walk : List ℕ) → IsUsed G start → HasWalked G start walk None → IsWalkFrom G start walk
 walk_whole G start [] u w = cc
-walk_whole G start (x ∷ rest) u w = record { used = u; rest = rest; walk_is = ap (λ y. y ∷ rest) w.0; goes_on = WalksTo-end G (start ∷ []) rest w.1 (λ y. subst (λ z. ¬ (MayFollow G (z ∷ rest) y)) w.0 (w.2 y)) }
+walk_whole G start (x ∷ rest) u w =
+    record { used = u; rest = rest; walk_is = ap (λ y. y ∷ rest) w.0; goes_on = WalksTo-end G (start ∷ []) rest w.1 (λ y. subst (λ z. ¬ (MayFollow G (z ∷ rest) y)) w.0 (w.2 y)) }
 
 -- the next node was not walked to, and is a node
 pub next_fresh : (G : List Statement) (start : ℕ) (walk : List ℕ) (node : ℕ) → HasWalked G start walk (Some node) → ¬ (In node walk)
@@ -136,7 +143,8 @@ fewer (false ∷ bs) (suc k) l e = (let h = fewer bs k (omega arith) e in omega 
 
 -- ---- at the end no mark is left
 
-pub unmarked : (G : List Statement) (walk : List ℕ) (walked ahead after : List Bool) → IsWalking G walk walked ahead → ((k : ℕ) → mark_at after k ≡ true → (mark_at walked k ≡ true) × (¬ (In k walk))) → IsEmpty after
+pub unmarked : (G : List Statement) (walk : List ℕ) (walked ahead after : List Bool) → IsWalking G walk walked ahead → ((k : ℕ) → mark_at after k ≡ true → (mark_at walked k ≡ true) × (¬ (In k walk)))
+    → IsEmpty after
 unmarked G walk walked ahead after w gone k = not_true (mark_at after k) (λ e. (let p = gone k e in p.1 ((w.walked_are k).0 p.0)))
 
 pub none_ahead : (G : List Statement) (start : ℕ) (walk : List ℕ) (walked ahead : List Bool) → IsWalking G walk walked ahead → HasWalked G start walk None → IsEmpty ahead
@@ -173,35 +181,54 @@ module _ (d : Document) (places : List ℕ) (n : ℕ) (l : n < length places) (f
       before m = elim (a.0 m) [ inl f ↦ inl f | inr p ↦ inr (record { place = p.0.place; there = In-take-less places n p.0.place p.0.there; end = p.0.end }, p.1) ]
 
       to : mark_at last k ≡ true → (mark_at first k ≡ true) ⊎ (IsNear d (take (n + 1) places) k × (mark_at walked k ≡ false))
-      to m = elim (c.0 m) [ inl f ↦ elim (b.0 f) [ inl g ↦ before g | inr p ↦ inr (record { place = get_or places n 0; there = In-take-last places n l; end = inl (sym s_is ∙ p.0) }, p.1) ] | inr p ↦ inr (record { place = get_or places n 0; there = In-take-last places n l; end = inr (sym o_is ∙ p.0) }, p.1) ]
+      to m = elim (c.0 m) [
+        | inl f ↦ elim (b.0 f) [
+          | inl g ↦ before g
+          | inr p ↦ inr
+              (record { place = get_or places n 0; there = In-take-last places n l; end = inl (sym s_is ∙ p.0) }, p.1)
+        ]
+        | inr p ↦ inr
+            (record { place = get_or places n 0; there = In-take-last places n l; end = inr (sym o_is ∙ p.0) }, p.1)
+      ]
 
-      here : (p : ℕ) → p ≡ get_or places n 0 → (node_in (term_at d.terms (quad_at d.quads p).s) ≡ Some k) ⊎ (node_in (term_at d.terms (quad_at d.quads p).o) ≡ Some k) → mark_at walked k ≡ false → mark_at last k ≡ true
+      here : (p : ℕ) → p ≡ get_or places n 0 → (node_in (term_at d.terms (quad_at d.quads p).s) ≡ Some k) ⊎ (node_in (term_at d.terms (quad_at d.quads p).o) ≡ Some k) → mark_at walked k ≡ false
+          → mark_at last k ≡ true
       here p e (inl f) w = c.1 (inl (b.1 (inr (s_is ∙ (ap (λ x. node_in (term_at d.terms (quad_at d.quads x).s)) (sym e) ∙ f), w))))
       here p e (inr f) w = c.1 (inr (o_is ∙ (ap (λ x. node_in (term_at d.terms (quad_at d.quads x).o)) (sym e) ∙ f), w))
 
       from : (mark_at first k ≡ true) ⊎ (IsNear d (take (n + 1) places) k × (mark_at walked k ≡ false)) → mark_at last k ≡ true
       from (inl f) = c.1 (inl (b.1 (inl (a.1 (inl f)))))
-      from (inr p) = elim (In-take-split places n p.0.place p.0.there) [ inl i ↦ c.1 (inl (b.1 (inl (a.1 (inr (record { place = p.0.place; there = i; end = p.0.end }, p.1)))))) | inr e ↦ here p.0.place e p.0.end p.1 ]
+      from (inr p) =
+          elim (In-take-split places n p.0.place p.0.there) [
+            | inl i ↦ c.1
+                (inl (b.1 (inl (a.1 (inr (record { place = p.0.place; there = i; end = p.0.end }, p.1))))))
+            | inr e ↦ here p.0.place e p.0.end p.1
+          ]
 
 -- before the first place nothing is near
 pub near_none : (d : Document) (places : List ℕ) (first walked : List Bool) (k : ℕ) → (mark_at first k ≡ true) ↔ ((mark_at first k ≡ true) ⊎ (IsNear d (take 0 places) k × (mark_at walked k ≡ false)))
 near_none d places first walked k = (λ m. inl m, λ h. elim h [ inl m ↦ m | inr p ↦ absurd p.0.there ])
 
-pub near_whole : (d : Document) (places : List ℕ) (n : ℕ) (first last walked : List Bool) (k : ℕ) → length places ≤ n → (mark_at last k ≡ true) ↔ ((mark_at first k ≡ true) ⊎ (IsNear d (take n places) k × (mark_at walked k ≡ false))) → (mark_at last k ≡ true) ↔ ((mark_at first k ≡ true) ⊎ (IsNear d places k × (mark_at walked k ≡ false)))
+pub near_whole : (d : Document) (places : List ℕ) (n : ℕ) (first last walked : List Bool) (k : ℕ) → length places ≤ n
+    → (mark_at last k ≡ true) ↔ ((mark_at first k ≡ true) ⊎ (IsNear d (take n places) k × (mark_at walked k ≡ false)))
+    → (mark_at last k ≡ true) ↔ ((mark_at first k ≡ true) ⊎ (IsNear d places k × (mark_at walked k ≡ false)))
 near_whole d places n first last walked k l h = subst (λ ps. (mark_at last k ≡ true) ↔ ((mark_at first k ≡ true) ⊎ (IsNear d ps k × (mark_at walked k ≡ false)))) (take_all n places l) h
 
 -- ---- the next node, as the marks tell it
 
-pub next_of : (G : List Statement) (walk : List ℕ) (walked ahead : List Bool) (r : Option ℕ) → IsWalking G walk walked ahead → IfSome r (IsNextMark ahead 0 (length ahead)) → IfNone r (NoMark ahead 0 (length ahead)) → IsNextOf G walk r
+pub next_of : (G : List Statement) (walk : List ℕ) (walked ahead : List Bool) (r : Option ℕ) → IsWalking G walk walked ahead → IfSome r (IsNextMark ahead 0 (length ahead))
+    → IfNone r (NoMark ahead 0 (length ahead)) → IsNextOf G walk r
 next_of G walk walked ahead None w some none = next_none G walk walked ahead w none
 next_of G walk walked ahead (Some y) w some none = next_some G walk walked ahead y w some
 
-pub ahead_within : (d : Document) (live : List Bool) (walk : List ℕ) (walked ahead : List Bool) → IsOneGraph d → IsWalking (left d live) walk walked ahead → (k : ℕ) → mark_at ahead k ≡ true → k < length d.labels
+pub ahead_within : (d : Document) (live : List Bool) (walk : List ℕ) (walked ahead : List Bool) → IsOneGraph d → IsWalking (left d live) walk walked ahead → (k : ℕ) → mark_at ahead k ≡ true
+    → k < length d.labels
 ahead_within d live walk walked ahead one w k e = (let s = ((w.ahead_are k).0 e).share in used_within d live one k (record { statement = s.triple; there = s.there; mentioned = s.mentions_second }))
 
 -- ---- marks that are taken away
 
-pub unmark_next : (first now : List Bool) (walk : List ℕ) (n : ℕ) → get_or walk n 0 < length now → ((k : ℕ) → mark_at now k ≡ true → (mark_at first k ≡ true) × (¬ (In k (take n walk)))) → (k : ℕ) → mark_at (set now (get_or walk n 0) false) k ≡ true → (mark_at first k ≡ true) × (¬ (In k (take (n + 1) walk)))
+pub unmark_next : (first now : List Bool) (walk : List ℕ) (n : ℕ) → get_or walk n 0 < length now → ((k : ℕ) → mark_at now k ≡ true → (mark_at first k ≡ true) × (¬ (In k (take n walk)))) → (k : ℕ)
+    → mark_at (set now (get_or walk n 0) false) k ≡ true → (mark_at first k ≡ true) × (¬ (In k (take (n + 1) walk)))
 unmark_next first now walk n l h k e = by (same_or_other k (get_or walk n 0))
   where
     by : (k ≡ get_or walk n 0) ⊎ (¬ (k ≡ get_or walk n 0)) → (mark_at first k ≡ true) × (¬ (In k (take (n + 1) walk)))
@@ -210,5 +237,6 @@ unmark_next first now walk n l h k e = by (same_or_other k (get_or walk n 0))
         let r = h k (sym (get_or-set_other now (get_or walk n 0) k false false o) ∙ e) in
         (r.0, λ i. elim (In-take-split walk n k i) [ inl j ↦ r.1 j | inr f ↦ o f ])
 
-pub unmark_whole : (first now : List Bool) (walk : List ℕ) (n : ℕ) → length walk ≤ n → ((k : ℕ) → mark_at now k ≡ true → (mark_at first k ≡ true) × (¬ (In k (take n walk)))) → (k : ℕ) → mark_at now k ≡ true → (mark_at first k ≡ true) × (¬ (In k walk))
+pub unmark_whole : (first now : List Bool) (walk : List ℕ) (n : ℕ) → length walk ≤ n → ((k : ℕ) → mark_at now k ≡ true → (mark_at first k ≡ true) × (¬ (In k (take n walk)))) → (k : ℕ)
+    → mark_at now k ≡ true → (mark_at first k ≡ true) × (¬ (In k walk))
 unmark_whole first now walk n l h k e = subst (λ w. (mark_at first k ≡ true) × (¬ (In k w))) (take_all n walk l) (h k e)

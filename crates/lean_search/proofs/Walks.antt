@@ -7,24 +7,25 @@ use Rattle.rdf_terms.specs.declared.term.Term.{Term}
 use Rattle.rdf_terms.proofs.Membership.{AreDistinct-push, In-append, In-append_right}
 use Rattle.graph_model.specs.Graphs.{IsReached}
 use Rattle.graph_model.specs.Components.{Follows, MayFollow, WalksOn, IsClosed, IsMapOf, IsTight, Touches, IsTripleOf}
-use Rattle.graph_model.proofs.Closed.{decide_in, append_nil, ended}
+use Rattle.graph_model.proofs.Closed.{decide_in, ended}
+use Rattle.std.proofs.lemmas.List.{append-nil}
 use Rattle.lean_search.specs.Walk.{IsWalkFrom, WalksTo}
 
 module _ (G : List Statement) where
   -- ---- from a walk under way to a whole one
 
   pub WalksTo-push : (taken rest : List ℕ) (y : ℕ) → WalksTo G taken rest → Follows G (taken ++ rest) y → WalksTo G taken (rest ++ y ∷ [])
-  WalksTo-push taken [] y w f = (subst (λ l. Follows G l y) (append_nil taken) f, tt)
+  WalksTo-push taken [] y w f = (subst (λ l. Follows G l y) (append-nil taken) f, tt)
   WalksTo-push taken (x ∷ rest) y w f = (w.0, WalksTo-push (taken ++ x ∷ []) rest y w.1 (subst (λ l. Follows G l y) (sym (append_assoc taken (x ∷ []) rest)) f))
 
   pub WalksTo-end : (taken rest : List ℕ) → WalksTo G taken rest → ((y : ℕ) → ¬ (MayFollow G (taken ++ rest) y)) → WalksOn G taken rest
-  WalksTo-end taken [] w none = λ y. subst (λ l. ¬ (MayFollow G l y)) (append_nil taken) (none y)
+  WalksTo-end taken [] w none = λ y. subst (λ l. ¬ (MayFollow G l y)) (append-nil taken) (none y)
   WalksTo-end taken (x ∷ rest) w none = (w.0, WalksTo-end (taken ++ x ∷ []) rest w.1 (λ y. subst (λ l. ¬ (MayFollow G l y)) (sym (append_assoc taken (x ∷ []) rest)) (none y)))
 
   -- ---- the nodes of a walk
 
   once : (taken rest : List ℕ) → WalksOn G taken rest → AreDistinct taken → AreDistinct (taken ++ rest)
-  once taken [] w d = subst AreDistinct (sym (append_nil taken)) d
+  once taken [] w d = subst AreDistinct (sym (append-nil taken)) d
   once taken (y ∷ rest) w d = subst AreDistinct (append_assoc taken (y ∷ []) rest) (once (taken ++ y ∷ []) rest w.1 (AreDistinct-push taken y d w.0.may.fresh))
 
   used : (taken rest : List ℕ) → WalksOn G taken rest → (n : ℕ) → In n rest → IsUsed G n
@@ -119,4 +120,5 @@ module _ (G : List Statement) where
   IsMapOf-same xs ys μ same m = record { endomorphism = m.endomorphism; kept = λ n out. m.kept n (λ i. out ((same n).0 i)) }
 
   pub IsTight-same : (xs ys : List ℕ) → ((n : ℕ) → In n xs ↔ In n ys) → IsTight G xs → IsTight G ys
-  IsTight-same xs ys same tight μ m st t = tight μ (IsMapOf-same ys xs μ (λ n. ((same n).1, (same n).0)) m) st (t.0, record { node = t.1.node; there = (same t.1.node).1 t.1.there; mentioned = t.1.mentioned })
+  IsTight-same xs ys same tight μ m st t =
+      tight μ (IsMapOf-same ys xs μ (λ n. ((same n).1, (same n).0)) m) st (t.0, record { node = t.1.node; there = (same t.1.node).1 t.1.there; mentioned = t.1.mentioned })

@@ -38,7 +38,10 @@ AreTermsOf d nodes terms = map (term_at d.terms) terms ≡ map Blank nodes
 
 -- after the one state those triples are left that a map reaches in the other
 abbrev pub LeavesReached : Document → (ℕ → ℕ) → List Bool → List Bool → Type 0
-LeavesReached d m before after = (k : ℕ) → k < length d.quads → (mark_at after k ≡ true → IsReachedBy m (quads_left d before) (quad_at d.quads k)) × (IsReachedBy m (quads_left d before) (quad_at d.quads k) → mark_at after k ≡ true)
+LeavesReached d m before after =
+    (k : ℕ) → k < length d.quads
+    → (mark_at after k ≡ true → IsReachedBy m (quads_left d before) (quad_at d.quads k))
+    × (IsReachedBy m (quads_left d before) (quad_at d.quads k) → mark_at after k ≡ true)
 
 -- ---- places
 

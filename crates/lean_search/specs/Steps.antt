@@ -36,4 +36,5 @@ pub record IsNodeMapped (d : Document) (to : List ℕ) (n m : ℕ) : Type 0 wher
 -- for each node, the number that the steps take its term to
 pub record IsMapBy (d : Document) (steps : List Step) (map : List ℕ) : Type 0 where
   pub count : length map ≡ length d.labels
-  pub each : (n : ℕ) → n < length d.labels → (k : ℕ) × (slice_get d.terms k ≡ Some (Blank n)) × (slice_index map n ≡ map_by_steps steps k)
+  pub each : (n : ℕ) → n < length d.labels
+      → (k : ℕ) × (slice_get d.terms k ≡ Some (Blank n)) × (slice_index map n ≡ map_by_steps steps k)

@@ -59,4 +59,5 @@ HasWalked G start (x ∷ rest) next = (x ≡ start) × WalksTo G (start ∷ []) 
 pub record IsNear (d : Document) (places : List ℕ) (n : ℕ) : Type 0 where
   pub place : ℕ
   pub there : In place places
-  pub end : (node_in (term_at d.terms (quad_at d.quads place).s) ≡ Some n) ⊎ (node_in (term_at d.terms (quad_at d.quads place).o) ≡ Some n)
+  pub end : (node_in (term_at d.terms (quad_at d.quads place).s) ≡ Some n)
+      ⊎ (node_in (term_at d.terms (quad_at d.quads place).o) ≡ Some n)

@@ -19,13 +19,13 @@ use crate::steps::Step;
 use crate::walk::walk_from;
 use dataset_index::Dataset;
 use map_search::{Ending, Index, find_map};
-use rdf_terms::{NoMemory, Quad};
+use rdf_terms::{MOST_NUMBERS, NoMemory, Quad};
 use std::alloc::Global;
 
-/// How the search of a component ends: no map misses a triple of it, or one did and its image is left,
-/// or more partial maps were met than the limit.
+// How the search of a component ends: no map misses a triple of it, or one did and its image is left,
+// or more partial maps were met than the limit.
 #[derive(Clone, Copy, Debug, PartialEq, Eq)]
-pub enum Searched {
+pub(crate) enum Searched {
     Tight,
     Shrunk,
     PastLimit,
@@ -58,7 +58,7 @@ fn find(
     requires index { IsIndexOf graph.now index.now }
     requires some { 0 < length walk.now }
     requires within { All (λ n. n < length graph.now.labels) walk.now }
-    requires few { length own.now < 4294967295 }
+    requires few { length own.now < MOST_NUMBERS }
     requires places { ArePlaces (length graph.now.terms) place_of.now own.now }
     requires numbers { AreNumbers graph.now.terms (quads_left graph.now index.now.live) own.now walk.now }
     ensures means { IfOk result (MeansByTerms graph.now.terms (quads_left graph.now index.now.live) own.now walk.now limit) }
@@ -90,7 +90,7 @@ fn take_step(
     requires terms { AreTermsOf graph.now walk.now own.items }
     requires in_range { All (λ t. t < length graph.now.terms) own.items }
     requires once { AreDistinct own.items }
-    requires few { length own.items < 4294967295 }
+    requires few { length own.items < MOST_NUMBERS }
     requires places { ArePlaces (length graph.now.terms) room.old.place_of.items own.items }
     requires count { length images.items ≡ length own.items }
     ensures room { OnOk result (IsRoom graph.now room.new) }
@@ -127,7 +127,7 @@ fn search_terms(
     requires terms { AreTermsOf graph.now walk.now own.items }
     requires in_range { All (λ t. t < length graph.now.terms) own.items }
     requires once { AreDistinct own.items }
-    requires few { length own.items < 4294967295 }
+    requires few { length own.items < MOST_NUMBERS }
     requires numbers { AreNumbers graph.now.terms (quads_left graph.now room.old.index.live) own.items walk.now }
     ensures room { OnOk result (IsRoom graph.now room.new) }
     ensures searched { IfOk result (IsSearchedAs graph.now walk.now limit (state_of room.old) (state_of room.new)) }
@@ -228,9 +228,9 @@ fn most_bound(graph: &Dataset, index: &Index, walk: &[u32]) -> u32
     best
 }
 
-/// Searches a component that is given in walk order. The order from the node with the fewest candidates
-/// on is tried first, since it meets the fewest partial maps; past the limit, the walk order is.
-pub fn search_component(
+// Searches a component that is given in walk order. The order from the node with the fewest candidates
+// on is tried first, since it meets the fewest partial maps; past the limit, the walk order is.
+pub(crate) fn search_component(
     alloc: Global,
     graph: &Dataset,
     room: &mut Room,
@@ -251,8 +251,8 @@ pub fn search_component(
     }
 }
 
-/// The component of the node, in walk order from the node on.
-pub fn walk_in(
+// The component of the node, in walk order from the node on.
+pub(crate) fn walk_in(
     alloc: Global,
     graph: &Dataset,
     room: &mut Room,

@@ -1,6 +1,9 @@
+//! A lean form, and why there is none.
 ghost use Rattle.std.specs.Prelude.{◌≡◌};
 
 use rdf_terms::{NoMemory, NodeList, Quad, QuadList};
+use std::error::Error;
+use std::fmt;
 
 /// A lean graph, and an endomorphism of the graph that was given onto it.
 #[derive(Debug, Drop)]
@@ -30,3 +33,17 @@ impl From<NoMemory> for LeanStop {
         LeanStop::NoMemory
     }
 }
+
+impl fmt::Display for LeanStop {
+    fn fmt<W: fmt::Write>(&self, f: &mut fmt::Formatter<W>) -> fmt::Result {
+        match self {
+            LeanStop::NotOneGraph { .. } => f.write_str("a quad has a graph name"),
+            LeanStop::SearchLimit { .. } => {
+                f.write_str("a component has more partial maps than the limit")
+            }
+            LeanStop::NoMemory => f.write_str("out of memory"),
+        }
+    }
+}
+
+impl Error for LeanStop {}

@@ -32,8 +32,8 @@ fn node_at(terms: &TermTable, number: u32) -> Option<u32>
     }
 }
 
-/// The node that the term with this number is.
-pub fn node_of(graph: &Dataset, term: u32) -> Option<u32>
+// The node that the term with this number is.
+pub(crate) fn node_of(graph: &Dataset, term: u32) -> Option<u32>
     requires one { IsOneGraph graph.now }
     requires within { term < length graph.now.terms }
     ensures node { result ≡ node_in (term_at graph.now.terms term) }
@@ -42,8 +42,8 @@ pub fn node_of(graph: &Dataset, term: u32) -> Option<u32>
     node_at(graph.terms(), term)
 }
 
-/// The places of those triples of the node that are left, ascending.
-pub fn places_left(
+// The places of those triples of the node that are left, ascending.
+pub(crate) fn places_left(
     alloc: Global,
     graph: &Dataset,
     index: &Index,
@@ -67,8 +67,8 @@ fn has_any(index: &Index, places: &[u32]) -> bool
     places.iter().any(|place| index.has(*place))
 }
 
-/// Whether a triple of the node is left.
-pub fn is_left(graph: &Dataset, index: &Index, node: u32) -> bool
+// Whether a triple of the node is left.
+pub(crate) fn is_left(graph: &Dataset, index: &Index, node: u32) -> bool
     requires one { IsOneGraph graph.now }
     requires index { IsIndexOf graph.now index.now }
     requires within { node < length graph.now.labels }
@@ -77,8 +77,8 @@ pub fn is_left(graph: &Dataset, index: &Index, node: u32) -> bool
     has_any(index, graph.quads_of(node))
 }
 
-/// The quad at this place.
-pub fn quad_in(quads: &[Quad], place: u32) -> Quad
+// The quad at this place.
+pub(crate) fn quad_in(quads: &[Quad], place: u32) -> Quad
     requires { place < length quads.now }
     ensures { result ≡ quad_at quads.now place }
 {

@@ -10,10 +10,10 @@ use rdf_terms::NoMemory;
 use std::alloc::Global;
 
 #[derive(Drop)]
-pub struct Missing<'a> {
-    pub index: &'a Index,
-    pub rows: &'a [Vec<Condition>],
-    pub terms: &'a [u32],
+pub(crate) struct Missing<'a> {
+    pub(crate) index: &'a Index,
+    pub(crate) rows: &'a [Vec<Condition>],
+    pub(crate) terms: &'a [u32],
 }
 
 fn is_in(sorted: &[u32], term: u32) -> bool

@@ -3,15 +3,17 @@ ghost use Rattle.std.specs.Prelude.{◌≡◌, ◌<◌, ◌^◌, length, All};
 ghost use Rattle.rdf_terms.specs.Lists.{AreDistinct};
 ghost use Rattle.lean_search.specs.Places.{AreNoPlaces, ArePlaces};
 
-/// What stands for a term without a place.
-pub const NONE: u32 = u32::MAX;
+use rdf_terms::MOST_NUMBERS;
 
-/// Notes the place of each of the terms.
-pub fn note_places(place_of: &mut [u32], terms: &[u32])
+// What stands for a term without a place.
+pub(crate) const NONE: u32 = u32::MAX;
+
+// Notes the place of each of the terms.
+pub(crate) fn note_places(place_of: &mut [u32], terms: &[u32])
     requires none { AreNoPlaces (length place_of.old) place_of.old }
     requires once { AreDistinct terms.now }
     requires within { All (λ t. t < length place_of.old) terms.now }
-    requires few { length terms.now < 4294967295 }
+    requires few { length terms.now < MOST_NUMBERS }
     ensures { ArePlaces (length place_of.old) place_of.new terms.now }
 {
     for (place, term) in terms.iter().enumerate() {
@@ -19,8 +21,8 @@ pub fn note_places(place_of: &mut [u32], terms: &[u32])
     }
 }
 
-/// Takes the places of the terms away.
-pub fn clear_places(place_of: &mut [u32], terms: &[u32])
+// Takes the places of the terms away.
+pub(crate) fn clear_places(place_of: &mut [u32], terms: &[u32])
     requires within { All (λ t. t < length place_of.old) terms.now }
     requires places { ArePlaces (length place_of.old) place_of.old terms.now }
     ensures { AreNoPlaces (length place_of.old) place_of.new }

@@ -11,15 +11,15 @@ use map_search::{Index, Marks};
 use rdf_terms::NoMemory;
 use std::alloc::Global;
 
-/// The triples that are left, and the steps that led there. A walk through a component and its search
-/// touch the places and marks of its own nodes alone, and take them back.
+// The triples that are left, and the steps that led there. A walk through a component and its search
+// touch the places and marks of its own nodes alone, and take them back.
 #[derive(Drop)]
-pub struct Room {
-    pub index: Index,
-    pub steps: Vec<Step>,
-    pub place_of: Vec<u32>,
-    pub walked: Vec<bool>,
-    pub ahead: Marks,
+pub(crate) struct Room {
+    pub(crate) index: Index,
+    pub(crate) steps: Vec<Step>,
+    pub(crate) place_of: Vec<u32>,
+    pub(crate) walked: Vec<bool>,
+    pub(crate) ahead: Marks,
 }
 
 fn no_places(alloc: Global, terms: u32) -> Result<Vec<u32>, NoMemory>
@@ -29,15 +29,15 @@ fn no_places(alloc: Global, terms: u32) -> Result<Vec<u32>, NoMemory>
     Ok(vec![in alloc; NONE; terms as usize]?)
 }
 
-pub fn no_marks(alloc: Global, count: u32) -> Result<Vec<bool>, NoMemory>
+pub(crate) fn no_marks(alloc: Global, count: u32) -> Result<Vec<bool>, NoMemory>
     ensures count { IfOk result (λ marks. length marks.items ≡ count) }
     ensures none { IfOk result (λ marks. (k : ℕ) → k < count → mark_at marks.items k ≡ false) }
 {
     Ok(vec![in alloc; false; count as usize]?)
 }
 
-/// Room for the search of the graph, of which all is left.
-pub fn make_room(alloc: Global, graph: &Dataset) -> Result<Room, NoMemory>
+// Room for the search of the graph, of which all is left.
+pub(crate) fn make_room(alloc: Global, graph: &Dataset) -> Result<Room, NoMemory>
     requires { IsOneGraph graph.now }
     ensures room { IfOk result (IsRoom graph.now) }
     ensures all { IfOk result (λ room. (k : ℕ) → k < length graph.now.quads → mark_at room.index.live k ≡ true) }

@@ -12,7 +12,7 @@ use crate::left::places_left;
 use crate::places::NONE;
 use dataset_index::Dataset;
 use map_search::{Condition, End, Index};
-use rdf_terms::{NoMemory, Quad};
+use rdf_terms::{MOST_NUMBERS, NoMemory, Quad};
 use std::alloc::Global;
 
 // The other end of a triple of the term at a place: a term that keeps its place in the graph, or the
@@ -83,9 +83,9 @@ fn row(
     Ok(row)
 }
 
-/// What the triples of each node of the walk ask of its image. `own` holds the nodes' terms, and
-/// `place_of` the place of each of them.
-pub fn rows_of(
+// What the triples of each node of the walk ask of its image. `own` holds the nodes' terms, and
+// `place_of` the place of each of them.
+pub(crate) fn rows_of(
     alloc: Global,
     graph: &Dataset,
     index: &Index,
@@ -97,7 +97,7 @@ pub fn rows_of(
     requires index { IsIndexOf graph.now index.now }
     requires places { ArePlaces (length graph.now.terms) place_of.now own.now }
     requires within { All (λ n. n < length graph.now.labels) walk.now }
-    requires few { length own.now < 4294967295 }
+    requires few { length own.now < MOST_NUMBERS }
     requires numbers { AreNumbers graph.now.terms (quads_left graph.now index.now.live) own.now walk.now }
     ensures { IfOk result (λ rows. IsSearch (quads_left graph.now index.now.live) (quads_left graph.now index.now.live) own.now (map (λ row. row.items) rows.items) (length graph.now.terms) (meets_in (quads_left graph.now index.now.live))) }
 {

@@ -18,7 +18,7 @@ use crate::room::{Room, make_room, no_marks};
 use crate::steps::{Step, composed};
 use dataset_index::Dataset;
 use map_search::Index;
-use rdf_terms::{NoMemory, NodeList, Quad, QuadList};
+use rdf_terms::{MOST_QUADS, NoMemory, NodeList, Quad, QuadList};
 use std::alloc::Global;
 
 // The first quad with a graph name.
@@ -192,7 +192,7 @@ fn push_if(quads: &mut Vec<Quad>, quad: Quad, there: bool) -> Result<(), NoMemor
 
 // Those of the quads that the index has.
 fn kept_quads(alloc: Global, quads: &[Quad], index: &Index) -> Result<Vec<Quad>, NoMemory>
-    requires { length quads.now ≤ 1000000000 }
+    requires { length quads.now ≤ MOST_QUADS }
     ensures { IfOk result (λ left. left.items ≡ kept quads.now index.now.live) }
 {
     let mut left = Vec::new(alloc);

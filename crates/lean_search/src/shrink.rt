@@ -13,7 +13,7 @@ use crate::left::{places_left, quad_in};
 use crate::places::NONE;
 use dataset_index::Dataset;
 use map_search::Index;
-use rdf_terms::{NoMemory, Quad};
+use rdf_terms::{MOST_NUMBERS, MOST_QUADS, NoMemory, Quad};
 use std::alloc::Global;
 
 // The number that the term is taken to: the image at its place, or itself.
@@ -21,7 +21,7 @@ fn image_of(place_of: &[u32], own: &[u32], images: &[u32], term: u32) -> u32
     requires within { term < length place_of.now }
     requires places { ArePlaces (length place_of.now) place_of.now own.now }
     requires once { AreDistinct own.now }
-    requires few { length own.now < 4294967295 }
+    requires few { length own.now < MOST_NUMBERS }
     requires count { length images.now ≡ length own.now }
     ensures { result ≡ map_of own.now images.now term }
 {
@@ -53,7 +53,7 @@ fn places_of_walk(
 
 fn place_in(quads: &[Quad], quad: Quad) -> Option<u32>
     requires ascend { Ascend quads.now }
-    requires few { length quads.now ≤ 1000000000 }
+    requires few { length quads.now ≤ MOST_QUADS }
     ensures some { IfSome result (λ k. (k < length quads.now) × (quad_at quads.now k ≡ quad)) }
     ensures none { IfNone result (¬ (In quad quads.now)) }
 {
@@ -68,7 +68,7 @@ fn carried_by(place_of: &[u32], own: &[u32], images: &[u32], triple: Quad) -> Qu
     requires o { triple.o < length place_of.now }
     requires places { ArePlaces (length place_of.now) place_of.now own.now }
     requires once { AreDistinct own.now }
-    requires few { length own.now < 4294967295 }
+    requires few { length own.now < MOST_NUMBERS }
     requires count { length images.now ≡ length own.now }
     ensures { result ≡ carried (map_of own.now images.now) triple }
 {
@@ -102,7 +102,7 @@ fn places_reached(
     requires within { All (λ k. k < length graph.now.quads) places.now }
     requires places { ArePlaces (length graph.now.terms) place_of.now own.now }
     requires once { AreDistinct own.now }
-    requires few { length own.now < 4294967295 }
+    requires few { length own.now < MOST_NUMBERS }
     requires count { length images.now ≡ length own.now }
     ensures { IfOk result (λ reached. (k : ℕ) → In k reached.items ↔ IsReachedFrom graph.now (map_of own.now images.now) places.now k) }
 {
@@ -128,8 +128,8 @@ fn set_all(index: &mut Index, places: &[u32], there: bool)
     }
 }
 
-/// Leaves those triples that the map of the walk reaches.
-pub fn shrink(
+// Leaves those triples that the map of the walk reaches.
+pub(crate) fn shrink(
     alloc: Global,
     graph: &Dataset,
     index: &mut Index,
@@ -144,7 +144,7 @@ pub fn shrink(
     requires terms { AreTermsOf graph.now walk.now own.now }
     requires places { ArePlaces (length graph.now.terms) place_of.now own.now }
     requires once { AreDistinct own.now }
-    requires few { length own.now < 4294967295 }
+    requires few { length own.now < MOST_NUMBERS }
     requires count { length images.now ≡ length own.now }
     ensures index { OnOk result (IsIndexOf graph.now index.new) }
     ensures reached { OnOk result (LeavesReached graph.now (map_of own.now images.now) index.old.live index.new.live) }

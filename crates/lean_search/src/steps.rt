@@ -6,11 +6,11 @@ ghost use Rattle.lean_search.specs.Steps.{map_by_steps, put_all, AreSteps, IsSte
 use rdf_terms::NoMemory;
 use std::alloc::Global;
 
-/// Takes terms to terms, by their numbers, each to the image at its place, and keeps all others.
+// Takes terms to terms, by their numbers, each to the image at its place, and keeps all others.
 #[derive(Debug, Drop)]
-pub struct Step {
-    pub terms: Vec<u32>,
-    pub images: Vec<u32>,
+pub(crate) struct Step {
+    pub(crate) terms: Vec<u32>,
+    pub(crate) images: Vec<u32>,
 }
 
 fn numbers_below(alloc: Global, count: u32) -> Result<Vec<u32>, NoMemory>
@@ -57,9 +57,9 @@ fn begin_with(alloc: Global, to: &mut Vec<u32>, step: &Step) -> Result<(), NoMem
     Ok(())
 }
 
-/// All steps, the first one first, as one map of so many terms. It is made from the last step back, so
-/// that each step changes what its own terms are taken to and nothing else.
-pub fn composed(alloc: Global, steps: &[Step], terms: u32) -> Result<Vec<u32>, NoMemory>
+// All steps, the first one first, as one map of so many terms. It is made from the last step back, so
+// that each step changes what its own terms are taken to and nothing else.
+pub(crate) fn composed(alloc: Global, steps: &[Step], terms: u32) -> Result<Vec<u32>, NoMemory>
     requires { AreSteps terms steps.now }
     ensures length { IfOk result (λ to. length to.items ≡ terms) }
     ensures each { IfOk result (λ to. (k : ℕ) → k < terms → slice_index to.items k ≡ map_by_steps steps.now k) }

@@ -95,9 +95,9 @@ fn unmark(walked: &mut [bool], walk: &[u32])
     }
 }
 
-/// The nodes that hang together with this one through triples that are left: this one first, then
-/// always the least node that shares a triple with one before. No node is marked before and after.
-pub fn walk_from(
+// The nodes that hang together with this one through triples that are left: this one first, then
+// always the least node that shares a triple with one before. No node is marked before and after.
+pub(crate) fn walk_from(
     alloc: Global,
     graph: &Dataset,
     index: &Index,

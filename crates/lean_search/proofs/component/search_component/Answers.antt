@@ -15,14 +15,20 @@ walk_in-requires-clause-used c = walk_used (left c.args.graph.now c.args.room.no
 
 pub returns-in-PastLimit-clause-searched : goal.returns-in-PastLimit-clause-searched
 returns-in-PastLimit-clause-searched c =
-    let s = subst (IsSearchedAs c.args.graph.now c.as_slice.result.now c.args.limit (state_of c.walk_in.new.room) (state_of c.search_walk.new.room)) c.in-PastLimit.is c.in_ok-searched.ensures.searched in
-    subst (λ (t : State). IfOk c.search_walk-in-PastLimit.result (IsSearchedAs c.args.graph.now c.args.walk.now c.args.limit t (state_of c.search_walk-in-PastLimit.new.room))) (s.0 ∙ c.walk_in.ensures.state) c.search_walk-in-PastLimit.ensures.searched
+    let s = subst
+    (IsSearchedAs c.args.graph.now c.as_slice.result.now c.args.limit (state_of c.walk_in.new.room) (state_of c.search_walk.new.room)) c.in-PastLimit.is c.in_ok-searched.ensures.searched in
+    subst (λ (t : State). IfOk c.search_walk-in-PastLimit.result (IsSearchedAs c.args.graph.now c.args.walk.now c.args.limit t (state_of c.search_walk-in-PastLimit.new.room)))
+    (s.0 ∙ c.walk_in.ensures.state) c.search_walk-in-PastLimit.ensures.searched
 
 pub returns : goal.returns
 returns c =
     let same : (n : ℕ) → In n c.in_ok-quick.quick.items ↔ In n c.args.walk.now = λ n. (let b : In n c.args.walk.now ↔ In n c.in_ok-quick.quick.items = same_nodes (left c.args.graph.now c.args.room.now.index.live) c.requires.walk.0 c.most_bound-start.result c.args.walk.now c.in_ok-quick.quick.items c.requires.walk.1 c.in_ok-quick.ensures.walk c.most_bound-start.ensures n in (b.1, b.0)) in
-    let s = subst (λ ws. IsSearchedAs c.args.graph.now ws c.args.limit (state_of c.walk_in.new.room) (state_of c.search_walk.new.room) c.in_ok-searched.searched) c.as_slice.ensures.value c.in_ok-searched.ensures.searched in
+    let s = subst
+    (λ ws. IsSearchedAs c.args.graph.now ws c.args.limit (state_of c.walk_in.new.room)
+    (state_of c.search_walk.new.room) c.in_ok-searched.searched) c.as_slice.ensures.value c.in_ok-searched.ensures.searched in
     record {
       room = c.in_ok-searched.ensures.room;
-      searched = searched_same c.args.graph.now c.in_ok-quick.quick.items c.args.walk.now c.args.limit (state_of c.args.room.now) (state_of c.search_walk.new.room) c.in_ok-searched.searched same c.in_default.not-PastLimit (subst (λ (t : State). IsSearchedAs c.args.graph.now c.in_ok-quick.quick.items c.args.limit t (state_of c.search_walk.new.room) c.in_ok-searched.searched) c.walk_in.ensures.state s);
+      searched = searched_same c.args.graph.now c.in_ok-quick.quick.items c.args.walk.now c.args.limit (state_of c.args.room.now)
+          (state_of c.search_walk.new.room) c.in_ok-searched.searched same c.in_default.not-PastLimit
+          (subst (λ (t : State). IsSearchedAs c.args.graph.now c.in_ok-quick.quick.items c.args.limit t (state_of c.search_walk.new.room) c.in_ok-searched.searched) c.walk_in.ensures.state s);
     }

@@ -12,8 +12,11 @@ loop-node-preserved c = record {
   terms = ap (map (term_at c.args.graph.now.terms)) c.in_ok-push.ensures.items
       ∙ (map-append (term_at c.args.graph.now.terms) c.loop-node.terms.items (c.term_of.result ∷ [])
       ∙ (ap (λ xs. xs ++ term_at c.args.graph.now.terms c.term_of.result ∷ []) c.loop-node.invariant.terms
-      ∙ (ap (λ t. map Blank (take c.loop-node.node-index c.args.walk.now) ++ t ∷ []) (get_or_from_slice_get c.args.graph.now.terms c.term_of.result (Blank (get_or c.args.walk.now c.loop-node.node-index 0)) (Blank 0) c.term_of.ensures)
+      ∙ (ap (λ t. map Blank (take c.loop-node.node-index c.args.walk.now) ++ t ∷ [])
+      (get_or_from_slice_get c.args.graph.now.terms c.term_of.result (Blank (get_or c.args.walk.now c.loop-node.node-index 0)) (Blank 0) c.term_of.ensures)
       ∙ (sym (map-append Blank (take c.loop-node.node-index c.args.walk.now) (get_or c.args.walk.now c.loop-node.node-index 0 ∷ []))
       ∙ ap (map Blank) (sym (take_more c.args.walk.now c.loop-node.node-index 0 c.loop-node-test.true))))));
-  in_range = subst (All (λ t. t < length c.args.graph.now.terms)) (sym c.in_ok-push.ensures.items) (All-push (λ t. t < length c.args.graph.now.terms) c.loop-node.terms.items c.term_of.result c.loop-node.invariant.in_range (slice_get_within c.args.graph.now.terms c.term_of.result (Blank (get_or c.args.walk.now c.loop-node.node-index 0)) c.term_of.ensures));
+  in_range = subst (All (λ t. t < length c.args.graph.now.terms)) (sym c.in_ok-push.ensures.items)
+      (All-push (λ t. t < length c.args.graph.now.terms) c.loop-node.terms.items c.term_of.result c.loop-node.invariant.in_range
+      (slice_get_within c.args.graph.now.terms c.term_of.result (Blank (get_or c.args.walk.now c.loop-node.node-index 0)) c.term_of.ensures));
 }

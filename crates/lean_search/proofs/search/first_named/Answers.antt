@@ -12,4 +12,6 @@ pub loop-quad-preserved : goal.loop-quad-preserved
 loop-quad-preserved c = All-more (λ q. q.g ≡ None) c.args.quads.now c.loop-quad.quad-index _ c.loop-quad-test.true c.loop-quad.invariant (none _ (sym c.is_some.ensures ∙ c.if-is_some.false))
 
 pub returns-clause-none : goal.returns-clause-none
-returns-clause-none c = All-same (λ q. q.g ≡ None) c.args.quads.now (take c.loop-quad.quad-index c.args.quads.now) (sym (take_all c.loop-quad.quad-index c.args.quads.now (let n = c.loop-quad-test.false in omega arith))) c.loop-quad.invariant
+returns-clause-none c =
+    All-same (λ q. q.g ≡ None) c.args.quads.now (take c.loop-quad.quad-index c.args.quads.now)
+    (sym (take_all c.loop-quad.quad-index c.args.quads.now (let n = c.loop-quad-test.false in omega arith))) c.loop-quad.invariant

@@ -12,4 +12,6 @@ nodes_mapped-requires c = ap length c.as_slice.ensures.value ∙ (c.in_ok-to.ens
 pub returns-clause-map : goal.returns-clause-map
 returns-clause-map c =
     let terms = c.len.ensures.len ∙ ap length c.terms.ensures.terms in
-    subst (IsMapBy c.args.graph.now c.args.steps.now) (sym c.new.ensures) (map_by_form c.args.graph.now c.args.steps.now c.in_ok-to.to.items c.in_ok-map.map.items c.in_ok-map.ensures.length (λ k l. c.in_ok-to.ensures.each k (subst (λ n. k < n) (sym terms) l)) (λ n l. subst (λ xs. IsNodeMapped c.args.graph.now xs n (get_or c.in_ok-map.map.items n 0)) c.as_slice.ensures.value (c.in_ok-map.ensures.each n l)))
+    subst (IsMapBy c.args.graph.now c.args.steps.now) (sym c.new.ensures)
+    (map_by_form c.args.graph.now c.args.steps.now c.in_ok-to.to.items c.in_ok-map.map.items c.in_ok-map.ensures.length (λ k l. c.in_ok-to.ensures.each k (subst (λ n. k < n) (sym terms) l))
+    (λ n l. subst (λ xs. IsNodeMapped c.args.graph.now xs n (get_or c.in_ok-map.map.items n 0)) c.as_slice.ensures.value (c.in_ok-map.ensures.each n l)))

@@ -8,7 +8,8 @@ use Rattle.lean_search.proofs.walk.note_ends.Goals as goal
 
 pub loop-place-preserved : goal.loop-place-preserved
 loop-place-preserved c =
-    let triple : c.quad-triple.result ≡ quad_at c.args.graph.now.quads (get_or c.args.places.now c.loop-place.place-index 0) = c.quad-triple.ensures ∙ ap (λ qs. quad_at qs (get_or c.args.places.now c.loop-place.place-index 0)) c.requires.index.quads_are in
+    let triple : c.quad-triple.result ≡ quad_at c.args.graph.now.quads (get_or c.args.places.now c.loop-place.place-index 0) = c.quad-triple.ensures
+    ∙ ap (λ qs. quad_at qs (get_or c.args.places.now c.loop-place.place-index 0)) c.requires.index.quads_are in
     record {
       room = c.note-in-loop-place.ensures.length ∙ (c.note.ensures.length ∙ c.loop-place.invariant.room);
       marks = λ k. noted_ends c.args.graph.now c.args.places.now c.loop-place.place-index c.loop-place-test.true c.args.ahead.now c.loop-place.ahead c.note.new.ahead c.note-in-loop-place.new.ahead c.args.walked.now c.node_of.result c.node_of-in-loop-place.result

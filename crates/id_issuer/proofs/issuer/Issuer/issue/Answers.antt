@@ -3,12 +3,13 @@ use Rattle.rdf_terms.specs.CanonicalForm.{place_of}
 use Rattle.id_issuer.specs.IssuedList.{list_with}
 use Rattle.id_issuer.proofs.Places.{place_of-insert_key, insert_key-list_with}
 use Rattle.id_issuer.proofs.Apart.{length-distinct_below, All-insert_key}
+use Rattle.rdf_terms.specs.declared.limits.TheConstants.{MOST_NUMBERS}
 use Rattle.id_issuer.proofs.issuer.Issuer.issue.Goals as goal
 
 pub invariant_of-self-2 : goal.invariant_of-self-2
 invariant_of-self-2 c =
-    let below = subst (All (λ k. k < 4294967295)) (sym c.in_ok-place.ensures.keys) (All-insert_key 4294967295 c.self.inside.nodes.keys c.args.node c.requires c.self.invariant.1) in
-    (length-distinct_below 4294967295 c.insert_full.new.self.keys c.insert_full.ensures.unique below, below)
+    let below = subst (All (λ k. k < MOST_NUMBERS)) (sym c.in_ok-place.ensures.keys) (All-insert_key MOST_NUMBERS c.self.inside.nodes.keys c.args.node c.requires c.self.invariant.1) in
+    (length-distinct_below MOST_NUMBERS c.insert_full.new.self.keys c.insert_full.ensures.unique below, below)
 
 pub returns-clause-place : goal.returns-clause-place
 returns-clause-place c =
