@@ -197,7 +197,3 @@ within_stated draft whole told drafts within finishes = by drafts.drafted.all_or
       labels_are = finishes.labels_are;
       statements_are = finishes.statements_are;
     }
-
--- no more are left
-pub as_many : (draft whole : Document) → Finishes draft whole → length (statements whole) ≡ length (statements draft)
-as_many draft whole finishes = ap length finishes.statements_are ∙ length-map (statements draft) (relabel_statement (new_number (statements draft)))

@@ -94,19 +94,6 @@ told_more text base tokens token leaf missing old new last now here builds is pl
       (first_use text base tokens token leaf here told.leaves told.are_leaves missing last (is (says base told.leaves) told.builds) told.use_at why some);
 }
 
--- ---- no token was taken
-
-no_use : (base : Option Text) (why : Undefined) → (begin base).undefined ≡ Some why → ⊥
-no_use base why some = let none : None ≡ Some why = some in cc
-
-pub nothing_taken : (text : Text) (reading : Reading) → IsBehind [] reading.parser → IsReady reading.builder → HasTaken text reading [] reading
-nothing_taken text reading behind ready = record {
-  begins = tt;
-  behind = behind;
-  ready = ready;
-  told = λ base builds. record { leaves = []; are_leaves = tt; builds = builds; use_at = λ why some. absurd (no_use base why some) };
-}
-
 -- ---- the token is taken, or none goes on with it
 
 pub taken_more : (text : Text) (first : Reading) (tokens : List Token) (token : Token) (old new : Reading) → HasTaken text first tokens old → IsNextBehind text tokens token

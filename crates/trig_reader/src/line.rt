@@ -28,7 +28,6 @@ fn line_behind(front: &[u8]) -> u64
 }
 
 /// The line of what begins at the place, counted from 1.
-#[tactic(auto, unfolding(crate::specs::Lines::line_at))]
 pub(crate) fn line_at(bytes: &[u8], place: usize) -> u64
     ensures { result ≡ line_at bytes.now place }
 {
