@@ -142,7 +142,7 @@ TakesOption command MapName = HasMap command
 TakesOption command TriGName = ReadsFiles command
 TakesOption command BaseName = ReadsFiles command
 
--- the words are the command's word, its options and its operands
+-- the words are the command's word, its options, of which a base comes with TriG alone, and its operands
 pub record IsCommand (words : List Text) (command : Command) (options : List Given) : Type 0 where
   pub spelled : words ≡ command_word command ∷ (flat_map spelled_option options ++ operands command)
   pub once : AreDistinct (map option_name options)

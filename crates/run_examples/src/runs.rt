@@ -351,7 +351,7 @@ fn what_is_not_done_is_noted_and_nothing_is_written(rt: HostRuntime) -> Result<(
         (&["canon", "--limit"], "", &[], 2, wrong),
         (&["canon", "--hash", "md5", "f"], "", &[], 2, wrong),
         (&["canon", "--related", "twice", "f"], "", &[], 2, wrong),
-        (&["canon", "--trig", "f"], "", &[], 2, wrong),
+        (&["canon", "--base", "e:", "f"], "", &[], 2, wrong),
         (
             &["hash", "f"],
             "<e:a> .",
