@@ -14,6 +14,7 @@ mod line;
 mod lines;
 mod list_names;
 mod names;
+mod room;
 mod run_order;
 mod runs;
 mod sorted;

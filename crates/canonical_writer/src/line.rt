@@ -223,7 +223,7 @@ fn push_suffix(out: &mut Vec<u8>, kind: &LiteralKind) -> Result<(), NoMemory>
 }
 
 #[inline]
-fn is_string_type(iri: &TermText) -> bool
+pub(crate) fn is_string_type(iri: &TermText) -> bool
     ensures { result ≡ bytes_eq iri.now xsd_string }
 {
     iri.as_str() == xsd::STRING

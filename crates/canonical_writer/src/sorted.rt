@@ -12,6 +12,7 @@ ghost use Rattle.canonical_writer.specs.Runs.{lines_of, IsRun, KeysAscend};
 
 use crate::lines::Lines;
 use crate::names::Names;
+use crate::room::make_room;
 use crate::runs::{Run, cut_at_subjects, sorted_runs};
 use rdf_terms::{Bytes, NoMemory, Quad, TermTable};
 use std::alloc::Global;
@@ -57,7 +58,8 @@ fn write_runs<N: Names>(
     let mut text = Vec::with_capacity(alloc, room)?;
     let mut group = Lines::new(alloc);
     let mut front = first_key(runs);
-    for run in runs {
+    for (place, run) in runs.iter().enumerate() {
+        make_room(&mut text, terms, runs, place)?;
         if !begins_with(run.key, front) {
             group.append_sorted(alloc, &mut text)?;
             group.clear();
