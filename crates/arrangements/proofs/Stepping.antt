@@ -173,7 +173,11 @@ at_front x xs j p = record {
 
         by : (get_or xs j 0 < z) ⊎ ((get_or xs j 0 ≡ z) ⊎ (z < get_or xs j 0)) → AtMost (get_or xs j 0 ∷ reverse (set xs j x)) (z ∷ zs)
         by (inl l) = inr (inl l)
-        by (inr (inl e)) = subst (λ w. AtMost (get_or xs j 0 ∷ reverse (set xs j x)) (w ∷ zs)) e (AtMost-cons (get_or xs j 0) (reverse (set xs j x)) zs (climbs_first (reverse (set xs j x)) zs (climbs_reverse (set xs j x) (falls_with x xs j p)) (same_head (get_or xs j 0) z (reverse (set xs j x)) zs (sym e) (permutes_trans (Permutes-sym moved) q))))
+        by (inr (inl e)) =
+            subst (λ w. AtMost (get_or xs j 0 ∷ reverse (set xs j x)) (w ∷ zs)) e
+            (AtMost-cons (get_or xs j 0) (reverse (set xs j x)) zs
+            (climbs_first (reverse (set xs j x)) zs (climbs_reverse (set xs j x) (falls_with x xs j p))
+            (same_head (get_or xs j 0) z (reverse (set xs j x)) zs (sym e) (permutes_trans (Permutes-sym moved) q))))
         by (inr (inr g)) = let a = above in absurd (omega (arith, a))
 
 -- ---- a step behind a common front

@@ -47,7 +47,8 @@ AreDistinct-once (x ∷ y ∷ ys) a = by (bytes_eq x y) refl (AreDistinct-once (
 
 -- ---- lists that are put behind one another
 
-AreDistinct-flat_map : (f : Text → List ℕ) → ((h : Text) → AreDistinct (f h)) → ((h k : Text) (x : ℕ) → In x (f h) → In x (f k) → h ≡ k) → (hs : List Text) → AreDistinct hs → AreDistinct (flat_map f hs)
+AreDistinct-flat_map : (f : Text → List ℕ) → ((h : Text) → AreDistinct (f h)) → ((h k : Text) (x : ℕ) → In x (f h) → In x (f k) → h ≡ k) → (hs : List Text) → AreDistinct hs
+    → AreDistinct (flat_map f hs)
 AreDistinct-flat_map f once apart [] d = tt
 AreDistinct-flat_map f once apart (h ∷ hs) d =
     AreDistinct-append (f h) (flat_map f hs) (once h) (AreDistinct-flat_map f once apart hs d.1)
@@ -105,7 +106,8 @@ module _ (ρ : Hashing) (D : Dataset) where
       by false f = let m : length (x ∷ c) ≤ D.nodes = are_once-length D.nodes (x ∷ c) (f, once) below in absurd (omega arith)
 
   -- the run ends with the nodes that are alone
-  pub run-alone : (nodes : List ℕ) → nodes ≡ flat_map (λ h. single (nodes_with_hash ρ D h)) (first_degree_hashes ρ D) → length nodes ≡ D.nodes → counted_run ρ D ≡ record { trace = nothing; value = nodes }
+  pub run-alone : (nodes : List ℕ) → nodes ≡ flat_map (λ h. single (nodes_with_hash ρ D h)) (first_degree_hashes ρ D) → length nodes ≡ D.nodes
+      → counted_run ρ D ≡ record { trace = nothing; value = nodes }
   run-alone nodes is long =
       let issued : issued_for_unique_hashes ρ D ≡ nodes = alone-issued ∙ sym is in
       let k = unique_hashes-canonical ρ D in

@@ -20,7 +20,8 @@ module _ (hash : ℕ → Text) (count : ℕ) (nodes : List (Text × ℕ)) where
   pub alone-begins : IsRanked hash count nodes → IsAloneSoFar hash count nodes [] nodes
   alone-begins r = record { ranked = r; all = refl }
 
-  pub alone-next : (found new : List ℕ) (left class behind : List (Text × ℕ)) → 0 < length left → class ≡ front_class (class_hash left) left → behind ≡ behind_class (class_hash left) left → new ≡ found ++ single (map node_of class)
+  pub alone-next : (found new : List ℕ) (left class behind : List (Text × ℕ)) → 0 < length left → class ≡ front_class (class_hash left) left → behind ≡ behind_class (class_hash left) left
+      → new ≡ found ++ single (map node_of class)
       → IsAloneSoFar hash count nodes found left → IsAloneSoFar hash count nodes new behind
   alone-next found new left class behind l c b n a = record {
     ranked = subst (IsRanked hash count) (sym b) (class-behind hash count left l a.ranked);

@@ -63,7 +63,8 @@ module _ (ρ : Hashing) (D : Dataset) (valid : IsValid D) where
   -- ---- all of it
 
   pub canon-from_run : (canon : Canon) (old log : LoggedTies) → canon.order ≡ (counted_run ρ D).value → canon.bytes ≡ canonical_form D canon.order → canon.units ≡ units_of ρ D
-      → canon.ties ≡ log.total → canon.joined ≡ log.joined → canon.unsettled ≡ log.unsettled → old.total ≡ 0 → old.joined ≡ 0 → old.unsettled ≡ None → LogsAll D (ties_of_run ρ D) old log → IsCanon ρ D canon
+      → canon.ties ≡ log.total → canon.joined ≡ log.joined → canon.unsettled ≡ log.unsettled → old.total ≡ 0 → old.joined ≡ 0 → old.unsettled ≡ None → LogsAll D (ties_of_run ρ D) old log
+      → IsCanon ρ D canon
   canon-from_run canon old log order bytes units ties joined unsettled no_total no_joined no_tie l = record {
     order_is = order;
     order_allowed = run-allowed canon.order order;

@@ -190,7 +190,8 @@ module _ (hash : ℕ → Text) (count : ℕ) (p : Pair) (xs : List Pair) (r : Is
     whole = λ q i n low e. by q i n e (In-either p.0 (p ∷ xs) (hash n, n) (r.whole q (In-behind p.0 (p ∷ xs) q i) n low e));
   }
     where
-      by : (q : Pair) → In q (behind_class p.0 (p ∷ xs)) → (n : ℕ) → hash n ≡ q.0 → In (hash n, n) (front_class p.0 (p ∷ xs)) ⊎ In (hash n, n) (behind_class p.0 (p ∷ xs)) → In (hash n, n) (behind_class p.0 (p ∷ xs))
+      by : (q : Pair) → In q (behind_class p.0 (p ∷ xs)) → (n : ℕ) → hash n ≡ q.0 → In (hash n, n) (front_class p.0 (p ∷ xs)) ⊎ In (hash n, n) (behind_class p.0 (p ∷ xs))
+          → In (hash n, n) (behind_class p.0 (p ∷ xs))
       by q i n e (inl f) = absurd (other_behind p.0 (p ∷ xs) r.ascends least q i (sym e ∙ (In-front p.0 (p ∷ xs) (hash n, n) f).1))
       by q i n e (inr b) = b
 
@@ -242,11 +243,13 @@ pub some_behind : (nodes : List Pair) (start : ℕ) → start < length nodes →
 some_behind nodes start l = let b = length-drop start nodes in omega arith
 
 -- the first node is in its class
-pub class_len-first : (nodes : List Pair) (p : Pair) (m : ℕ) → 0 < length nodes → p ≡ get_or nodes 0 p → m ≡ prefix_len (λ q. bytes_eq q.0 p.0) (take (length nodes - 1) (drop 1 nodes)) → 1 + m ≡ prefix_len (λ q. bytes_eq q.0 (class_hash nodes)) nodes
+pub class_len-first : (nodes : List Pair) (p : Pair) (m : ℕ) → 0 < length nodes → p ≡ get_or nodes 0 p → m ≡ prefix_len (λ q. bytes_eq q.0 p.0) (take (length nodes - 1) (drop 1 nodes))
+    → 1 + m ≡ prefix_len (λ q. bytes_eq q.0 (class_hash nodes)) nodes
 class_len-first [] p m l e f = absurd (omega arith)
 class_len-first (q ∷ xs) p m l e f =
     let rest : m ≡ prefix_len (λ (r : Pair). bytes_eq r.0 q.0) xs = f ∙ (λ i. prefix_len (λ (r : Pair). bytes_eq r.0 (e i).0) (slice_from 1 (q ∷ xs) i)) in
     ap (λ k. 1 + k) rest ∙ ap (λ t. cond t (1 + prefix_len (λ (r : Pair). bytes_eq r.0 q.0) xs) 0) (sym ((bytes_eq-Decides q.0 q.0).1 refl))
 
-pub class_len-most : (nodes : List Pair) (p : Pair) (m : ℕ) → 0 < length nodes → p ≡ get_or nodes 0 p → m ≡ prefix_len (λ q. bytes_eq q.0 p.0) (take (length nodes - 1) (drop 1 nodes)) → 1 + m ≤ length nodes
+pub class_len-most : (nodes : List Pair) (p : Pair) (m : ℕ) → 0 < length nodes → p ≡ get_or nodes 0 p → m ≡ prefix_len (λ q. bytes_eq q.0 p.0) (take (length nodes - 1) (drop 1 nodes))
+    → 1 + m ≤ length nodes
 class_len-most nodes p m l e f = let c = class_len-first nodes p m l e f in let b = prefix_len-le-length (λ (q : Pair). bytes_eq q.0 (class_hash nodes)) nodes in omega arith

@@ -58,7 +58,8 @@ module _ (D : Dataset) where
   first-append a b None (Some t) f g = first-behind a b (tie_of t) f g
   first-append a b (Some t) n f e = subst (IsFirstOf D (a ++ b)) (sym e) (first-before a b (tie_of t) f)
 
-  kept-append : (a b : List Tie) (o m n : Option CarriedTie) → MatchOption o (IsFirstOf D a m) (λ t. m ≡ Some t) → MatchOption m (IsFirstOf D b n) (λ t. n ≡ Some t) → MatchOption o (IsFirstOf D (a ++ b) n) (λ t. n ≡ Some t)
+  kept-append : (a b : List Tie) (o m n : Option CarriedTie) → MatchOption o (IsFirstOf D a m) (λ t. m ≡ Some t) → MatchOption m (IsFirstOf D b n) (λ t. n ≡ Some t)
+      → MatchOption o (IsFirstOf D (a ++ b) n) (λ t. n ≡ Some t)
   kept-append a b None m n f g = first-append a b m n f g
   kept-append a b (Some t) m n e g = subst (λ v. MatchOption v (IsFirstOf D b n) (λ s. n ≡ Some s)) e g
 

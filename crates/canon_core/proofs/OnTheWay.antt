@@ -21,7 +21,8 @@ pub record IsOnTheWay (D : Dataset) (whole left : Counted (List ℕ)) (spent_bef
 pub way-begins : (D : Dataset) (whole : Counted (List ℕ)) (spent : ℕ) (log : LoggedTies) → IsOnTheWay D whole whole spent spent log log
 way-begins D whole spent log = record { trace = nothing; same = after-nothing whole; units = omega arith; logs = logs-none D log }
 
-pub way-next : (D : Dataset) (whole left : Counted (List ℕ)) (t : Trace) (more : Counted (List ℕ)) (s0 s u : ℕ) (l0 l m : LoggedTies) → IsOnTheWay D whole left s0 s l0 l → left ≡ after t more → u ≡ s + t.units → LogsAll D t.ties l m
+pub way-next : (D : Dataset) (whole left : Counted (List ℕ)) (t : Trace) (more : Counted (List ℕ)) (s0 s u : ℕ) (l0 l m : LoggedTies) → IsOnTheWay D whole left s0 s l0 l → left ≡ after t more
+    → u ≡ s + t.units → LogsAll D t.ties l m
     → IsOnTheWay D whole more s0 u l0 m
 way-next D whole left t more s0 s u l0 l m w e units logs = record {
   trace = followed_by w.trace t;
@@ -36,7 +37,8 @@ pub record IsWholeWay (D : Dataset) (whole : Counted (List ℕ)) (value : List �
   pub units : spent ≡ spent_before + whole.trace.units
   pub logs : LogsAll D whole.trace.ties log_before log
 
-pub way-ends : (D : Dataset) (whole left : Counted (List ℕ)) (value : List ℕ) (s0 s : ℕ) (l0 l : LoggedTies) → IsOnTheWay D whole left s0 s l0 l → left ≡ record { trace = nothing; value = value } → IsWholeWay D whole value s0 s l0 l
+pub way-ends : (D : Dataset) (whole left : Counted (List ℕ)) (value : List ℕ) (s0 s : ℕ) (l0 l : LoggedTies) → IsOnTheWay D whole left s0 s l0 l → left ≡ record { trace = nothing; value = value }
+    → IsWholeWay D whole value s0 s l0 l
 way-ends D whole left value s0 s l0 l w e =
     let all : record { trace = w.trace; value = value } ≡ whole = ap (λ (t : Trace). record { trace = t; value = value }) (sym (followed_by-nothing w.trace)) ∙ ap (after w.trace) (sym e) ∙ w.same in
     record {
@@ -46,9 +48,11 @@ way-ends D whole left value s0 s l0 l w e =
     }
 
 -- the limit is passed on the next stretch, and so by the whole
-pub way-over : (D : Dataset) (whole left : Counted (List ℕ)) (t : Trace) (more : Counted (List ℕ)) (s0 s limit : ℕ) (l0 l : LoggedTies) → IsOnTheWay D whole left s0 s l0 l → left ≡ after t more → limit < s + t.units → limit < s0 + whole.trace.units
+pub way-over : (D : Dataset) (whole left : Counted (List ℕ)) (t : Trace) (more : Counted (List ℕ)) (s0 s limit : ℕ) (l0 l : LoggedTies) → IsOnTheWay D whole left s0 s l0 l → left ≡ after t more
+    → limit < s + t.units → limit < s0 + whole.trace.units
 way-over D whole left t more s0 s limit l0 l w e over =
-    let all : w.trace.units + (t.units + more.trace.units) ≡ whole.trace.units = ap (λ (o : Counted (List ℕ)). w.trace.units + o.trace.units) (sym e) ∙ ap (λ (o : Counted (List ℕ)). o.trace.units) w.same in
+    let all : w.trace.units + (t.units + more.trace.units) ≡ whole.trace.units = ap (λ (o : Counted (List ℕ)). w.trace.units + o.trace.units) (sym e)
+    ∙ ap (λ (o : Counted (List ℕ)). o.trace.units) w.same in
     let k = w.units in
     omega arith
 
@@ -58,7 +62,8 @@ module _ (ρ : Hashing) (D : Dataset) where
   first-class : (h : Text) (hs : List Text) (c : List ℕ) → counted_hashes ρ D (h ∷ hs) c ≡ after (run_of_class ρ D h c).trace (counted_hashes ρ D hs (run_of_class ρ D h c).value)
   first-class h hs c = ap (λ (t : Trace). after t (counted_hashes ρ D hs (run_of_class ρ D h c).value)) (sym (followed_by-nothing _))
 
-  pub run-next : (p : Text × ℕ) (nodes : List (Text × ℕ)) (c : List ℕ) → run_from ρ D (p ∷ nodes) c ≡ after (run_of_class ρ D p.0 c).trace (run_from ρ D (behind_class p.0 (p ∷ nodes)) (run_of_class ρ D p.0 c).value)
+  pub run-next : (p : Text × ℕ) (nodes : List (Text × ℕ)) (c : List ℕ)
+      → run_from ρ D (p ∷ nodes) c ≡ after (run_of_class ρ D p.0 c).trace (run_from ρ D (behind_class p.0 (p ∷ nodes)) (run_of_class ρ D p.0 c).value)
   run-next p nodes c = ap (λ hs. counted_hashes ρ D hs c) (once-class p.0 p nodes refl) ∙ first-class p.0 (each_of nodes) c
     where
       each_of : List (Text × ℕ) → List Text

@@ -43,14 +43,16 @@ module _ (ρ : Hashing) (D : Dataset) (valid : IsValid D) (c : List ℕ) (k : Ar
 
   unissued-ascend : StrictlyAscends nat_cmp (unissued_nodes ρ D c h)
   unissued-ascend =
-      StrictlyAscends-filter nat_cmp (has_no_canonical c) (nodes_with_hash ρ D h) (StrictlyAscends-filter nat_cmp (has_first_degree_hash ρ D h) (numbers_below D.nodes) (StrictlyAscends-numbers_below D.nodes))
+      StrictlyAscends-filter nat_cmp (has_no_canonical c) (nodes_with_hash ρ D h)
+      (StrictlyAscends-filter nat_cmp (has_first_degree_hash ρ D h) (numbers_below D.nodes) (StrictlyAscends-numbers_below D.nodes))
 
   pub starts-ascend : (nodes : List ℕ) (results : List HashPathResult) → nodes ≡ unissued_nodes ρ D c h → results ≡ map (result_of ρ D c) nodes → StartsAscend results
   starts-ascend nodes results e f = subst (StrictlyAscends nat_cmp) (sym (ap (map start_of_result) f ∙ starts-are nodes ∙ e)) unissued-ascend
 
   -- ---- the results
 
-  pub results-are : (nodes : List ℕ) (results ordered : List HashPathResult) → nodes ≡ unissued_nodes ρ D c h → results ≡ map (result_of ρ D c) nodes → ordered ≡ sort_results results → ordered ≡ counted_results ρ D c h
+  pub results-are : (nodes : List ℕ) (results ordered : List HashPathResult) → nodes ≡ unissued_nodes ρ D c h → results ≡ map (result_of ρ D c) nodes → ordered ≡ sort_results results
+      → ordered ≡ counted_results ρ D c h
   results-are nodes results ordered e f g = g ∙ ap sort_results (f ∙ ap (map (result_of ρ D c)) e)
 
   results-length : length (counted_results ρ D c h) ≡ length (unissued_nodes ρ D c h)
@@ -85,7 +87,8 @@ module _ (ρ : Hashing) (D : Dataset) (valid : IsValid D) (c : List ℕ) (k : Ar
       let same = ap (λ ns. (trace_of_starts ρ D c ns).units) e in
       omega arith
 
-  pub class-logs : (nodes : List ℕ) (ordered : List HashPathResult) (old mid new : LoggedTies) → nodes ≡ unissued_nodes ρ D c h → ordered ≡ counted_results ρ D c h → LogsAll D (trace_of_starts ρ D c nodes).ties old mid → LogsInTurn D (ties_of_results c ordered) mid new
+  pub class-logs : (nodes : List ℕ) (ordered : List HashPathResult) (old mid new : LoggedTies) → nodes ≡ unissued_nodes ρ D c h → ordered ≡ counted_results ρ D c h
+      → LogsAll D (trace_of_starts ρ D c nodes).ties old mid → LogsInTurn D (ties_of_results c ordered) mid new
       → LogsAll D (run_of_class ρ D h c).trace.ties old new
   class-logs nodes ordered old mid new e f l m =
       let starts = (trace_of_starts ρ D c (unissued_nodes ρ D c h)).ties in

@@ -43,5 +43,6 @@ module _ (ρ : Hashing) (D : Dataset) where
   whole-run nodes c alone o e f = (λ i. counted_hashes ρ D (o.hashes i) ((f ∙ ap (issue_each []) e) i))
 
   -- the order is found, and where the nodes that are alone are all, they are the whole run
-  pub run-of-alone : (nodes : List (Text × ℕ)) (alone : List ℕ) → IsInHashOrder ρ D nodes → alone ≡ alone_in (hash_first_degree_quads ρ D) D.nodes nodes → length alone ≡ D.nodes → counted_run ρ D ≡ record { trace = nothing; value = alone }
+  pub run-of-alone : (nodes : List (Text × ℕ)) (alone : List ℕ) → IsInHashOrder ρ D nodes → alone ≡ alone_in (hash_first_degree_quads ρ D) D.nodes nodes → length alone ≡ D.nodes
+      → counted_run ρ D ≡ record { trace = nothing; value = alone }
   run-of-alone nodes alone o e l = run-alone ρ D alone (alone-are nodes alone o e) l

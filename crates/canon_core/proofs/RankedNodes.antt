@@ -50,10 +50,12 @@ hash_in-map hash count n l =
     let k : n < length (numbers_below count) = omega (arith, length-numbers_below count) in
     get_or-map hash (numbers_below count) n 0 [] k ∙ ap hash (get_or-numbers_below count n l)
 
-pub permutes-table : (hash : ℕ → Text) (count : ℕ) (hashes : List Text) (nodes : List (Text × ℕ)) → hashes ≡ map hash (numbers_below count) → Permutes (map (λ n. (hash_in hashes n, n)) (numbers_below count)) nodes
+pub permutes-table : (hash : ℕ → Text) (count : ℕ) (hashes : List Text) (nodes : List (Text × ℕ)) → hashes ≡ map hash (numbers_below count)
+    → Permutes (map (λ n. (hash_in hashes n, n)) (numbers_below count)) nodes
     → Permutes (map (paired hash) (numbers_below count)) nodes
 permutes-table hash count hashes nodes table all =
-    permutes_trans (Permutes-from_equal (map-numbers_below (paired hash) (paired (hash_in hashes)) count (λ k l. ap (λ t. (t, k)) (sym (ap (λ hs. hash_in hs k) table ∙ hash_in-map hash count k l))))) all
+    permutes_trans
+    (Permutes-from_equal (map-numbers_below (paired hash) (paired (hash_in hashes)) count (λ k l. ap (λ t. (t, k)) (sym (ap (λ hs. hash_in hs k) table ∙ hash_in-map hash count k l))))) all
 
 -- ---- all nodes
 

@@ -38,7 +38,8 @@ before_not_at_most r q e = by (slice_cmp nat_cmp r.hash q.hash) refl e
     by Equal d f = absurd (true≢false f)
     by Greater d f = ap (λ o. ordering_then o (nat_cmp q.start r.start)) (nat_list_cmp_total.antisymm q.hash r.hash ∙ ap ordering_reverse d)
 
-insert-ascends : (r : HashPathResult) (qs : List HashPathResult) → StrictlyAscends result_cmp qs → ((q : HashPathResult) → In q qs → r.start < q.start) → StrictlyAscends result_cmp (insert_result r qs)
+insert-ascends : (r : HashPathResult) (qs : List HashPathResult) → StrictlyAscends result_cmp qs → ((q : HashPathResult) → In q qs → r.start < q.start)
+    → StrictlyAscends result_cmp (insert_result r qs)
 insert-ascends r [] a low = (λ q h. absurd h, tt)
 insert-ascends r (q ∷ qs) a low = by (is_at_most r.hash q.hash) refl (insert-ascends r qs a.1 (λ s h. low s (inr h)))
   where

@@ -1,4 +1,5 @@
--- Nodes in the order of their hashes, those of one hash in the order of their numbers, and the classes of nodes of one hash.
+-- Nodes in the order of their hashes, those of one hash in the order of their numbers, and the classes of nodes of one
+-- hash.
 use Rattle.std.specs.Prelude.{◌≡◌, ℕ, ◌<◌, if◌then◌else◌, List, [], ◌∷◌, filter, slice_index_or}
 use Rattle.std.specs.Ordering.{nat_cmp}
 use Rattle.std.specs.Cmp.Lexicographic.{slice_cmp}

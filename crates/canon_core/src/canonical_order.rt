@@ -53,7 +53,7 @@ fn order_from(
     Ok(issued_nodes(alloc, &canon)?)
 }
 
-/// The list of the canonical issuer (RDF Dataset Canonicalization, section 4.4, steps 3 to 5).
+// The list of the canonical issuer (RDF Dataset Canonicalization, section 4.4, steps 3 to 5).
 pub(crate) fn canonical_order(
     alloc: Global,
     dataset: &Dataset,

@@ -58,7 +58,7 @@ fn issue_class(
     Ok(())
 }
 
-/// Issues canonical identifiers by way of each class in turn.
+// Issues canonical identifiers by way of each class in turn.
 pub(crate) fn issue_classes(
     alloc: Global,
     dataset: &Dataset,

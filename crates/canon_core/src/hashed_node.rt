@@ -11,8 +11,8 @@ use canon_model::HexHash;
 use std::cmp::Ordering;
 use std::marker::Model;
 
-/// A node with its hash. Two compare by the fronts of their hashes, and only where these are equal by a look at the
-/// hashes, which lie far apart in memory.
+// A node with its hash. Two compare by the fronts of their hashes, and only where these are equal by a look at the
+// hashes, which lie far apart in memory.
 #[derive(Drop)]
 pub(crate) struct HashedNode<'a> {
     front: u64,
@@ -32,7 +32,7 @@ impl<'a> Model for HashedNode<'a> {
     ghost invariant = { λ n. IsFront [] n.hash.now n.front };
 }
 
-/// The first eight bytes as one number.
+// The first eight bytes as one number.
 fn front(hash: &HexHash) -> u64
     ensures { IsFront [] hash.now result }
 {
@@ -41,7 +41,7 @@ fn front(hash: &HexHash) -> u64
 }
 
 impl<'a> HashedNode<'a> {
-    pub fn new(hash: &'a HexHash, node: u32) -> Self
+    pub(crate) fn new(hash: &'a HexHash, node: u32) -> Self
         ensures { result ≡ (hash.now, node) }
     {
         HashedNode {
@@ -51,28 +51,28 @@ impl<'a> HashedNode<'a> {
         }
     }
 
-    pub fn node(&self) -> u32
+    pub(crate) fn node(&self) -> u32
         ensures { result ≡ self.now.1 }
     {
         self.node
     }
 
-    /// How the hashes compare, as texts.
+    // How the hashes compare, as texts.
     fn compare_hashes(&self, other: &Self) -> Ordering
         ensures { result ≡ slice_cmp nat_cmp self.now.0 other.now.0 }
     {
         (self.front, self.hash).cmp(&(other.front, other.hash))
     }
 
-    /// Whether both have one hash.
-    pub fn has_hash_of(&self, other: &Self) -> bool
+    // Whether both have one hash.
+    pub(crate) fn has_hash_of(&self, other: &Self) -> bool
         ensures { result ≡ bytes_eq self.now.0 other.now.0 }
     {
         self.compare_hashes(other).is_eq()
     }
 
-    /// By the hashes, and by the numbers of the nodes where these are equal.
-    pub fn compare(&self, other: &Self) -> Ordering
+    // By the hashes, and by the numbers of the nodes where these are equal.
+    pub(crate) fn compare(&self, other: &Self) -> Ordering
         ensures { result ≡ node_cmp self.now other.now }
     {
         self.compare_hashes(other).then(self.node.cmp(&other.node))

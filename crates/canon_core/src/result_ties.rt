@@ -37,8 +37,8 @@ fn log_with(
     Ok(())
 }
 
-/// Logs the ties of results that stand in the order of their hashes: each but the first of one hash is a tie with the
-/// first.
+// Logs the ties of results that stand in the order of their hashes: each but the first of one hash is a tie with the
+// first.
 pub(crate) fn log_ties(
     alloc: Global,
     dataset: &Dataset,

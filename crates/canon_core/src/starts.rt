@@ -26,7 +26,7 @@ fn has_no_identifier(canon: &Issuer, node: u32) -> bool
     canon.id_of(node).is_none()
 }
 
-/// The nodes of the class that have no canonical identifier.
+// The nodes of the class that have no canonical identifier.
 pub(crate) fn unissued(
     alloc: Global,
     class: &[HashedNode<'_>],
@@ -95,7 +95,7 @@ fn keep(results: &mut Vec<PathResult>, found: PathResult) -> Result<(), NoMemory
     Ok(())
 }
 
-/// The results of these start nodes, in their order.
+// The results of these start nodes, in their order.
 pub(crate) fn results_from(
     alloc: Global,
     dataset: &Dataset,

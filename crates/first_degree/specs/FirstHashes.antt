@@ -1,4 +1,5 @@
--- The first-degree hashes of a document's nodes (RDF Dataset Canonicalization, section 4.6), and the lines that are hashed.
+-- The first-degree hashes of a document's nodes (RDF Dataset Canonicalization, section 4.6), and the lines that are
+-- hashed.
 use Rattle.std.specs.Prelude.{ℕ, List, [], map, length, Option, Some, None, slice_get}
 use Rattle.rdf_terms.specs.Lists.{Text, numbers_below}
 use Rattle.rdf_terms.specs.Terms.{Statement}

@@ -11,7 +11,8 @@ use Rattle.canon_core.specs.Canonical.{IsUnsettledBy}
 use Rattle.iso_compare.specs.declared.verdict.Verdict.{Verdict}
 use Rattle.iso_compare.specs.declared.verdict.Verdict.TheVariants.{Same, Different, Undecided}
 
--- an isomorphism (RDF 1.1 Concepts, section 4.1) by its pairs: every node of A in order, each with the node of B that it is carried to
+-- an isomorphism (RDF 1.1 Concepts, section 4.1) by its pairs: every node of A in order, each with the node of B that
+-- it is carried to
 pub record IsBijection (A B : Dataset) (pairs : List (ℕ × ℕ)) : Type 0 where
   pub relabelling : Relabelling A.nodes
   pub carries : Carries relabelling.to A B

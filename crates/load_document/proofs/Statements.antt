@@ -143,9 +143,11 @@ statements-valid n some =
     let Valid = IsValidStatement (3 * n) in
     All-append Valid (flat_map (ring_statements n) (numbers_below n)) (flat_map pair_statements (numbers_below (n / 100)))
     (each_below Valid (ring_statements n) n n (omega arith) (λ i h.
-    two Valid _ _ (numbered-valid (3 * n) i (omega arith)) (edge-valid (3 * n) (3 * i) (3 * ((i + 1) % n)) (codes "http://e/next") next_iri (omega arith) (let r : (i + 1) % n < n = omega arith in omega arith))))
+    two Valid _ _ (numbered-valid (3 * n) i (omega arith))
+    (edge-valid (3 * n) (3 * i) (3 * ((i + 1) % n)) (codes "http://e/next") next_iri (omega arith) (let r : (i + 1) % n < n = omega arith in omega arith))))
     (each_below Valid pair_statements (n / 100) (n / 100) (omega arith) (λ j h.
-    two Valid _ _ (edge-valid (3 * n) (3 * j + 1) (3 * j + 2) (codes "http://e/pair") pair_iri (omega arith) (omega arith)) (edge-valid (3 * n) (3 * j + 2) (3 * j + 1) (codes "http://e/pair") pair_iri (omega arith) (omega arith))))
+    two Valid _ _ (edge-valid (3 * n) (3 * j + 1) (3 * j + 2) (codes "http://e/pair") pair_iri (omega arith) (omega arith))
+    (edge-valid (3 * n) (3 * j + 2) (3 * j + 1) (codes "http://e/pair") pair_iri (omega arith) (omega arith))))
 
 -- ---- their canonical lines are the document
 
@@ -159,7 +161,9 @@ unescaped (b ∷ bs) digits =
 
 numbered-line : (i : ℕ) → canonical_line name (numbered i) ≡ number_line i
 unfolding canonical_line numbered
-numbered-line i = rw (name-n i, unescaped (numeral i) (In-numeral i)) (ap (λ t. 95 ∷ 58 ∷ 110 ∷ t) (ap (λ t. numeral i ++ t) (ap (λ t. codes " <http://e/n> \"" ++ t) (append_assoc (numeral i) (34 ∷ []) (codes " .\n")))))
+numbered-line i =
+    rw (name-n i, unescaped (numeral i) (In-numeral i))
+    (ap (λ t. 95 ∷ 58 ∷ 110 ∷ t) (ap (λ t. numeral i ++ t) (ap (λ t. codes " <http://e/n> \"" ++ t) (append_assoc (numeral i) (34 ∷ []) (codes " .\n")))))
 
 edge-line : (from to i j : ℕ) (iri : Text) (a b : ℕ) → name from ≡ a ∷ numeral i → name to ≡ b ∷ numeral j
     → canonical_line name (edge from iri to) ≡ edge_line (95 ∷ 58 ∷ a ∷ []) i (32 ∷ 60 ∷ (iri ++ (62 ∷ 32 ∷ 95 ∷ 58 ∷ b ∷ []))) j
@@ -174,7 +178,8 @@ joined-append (x ∷ xs) ys = ap (λ t. x ++ t) (joined-append xs ys) ∙ sym (a
 two_lines : (st su : Statement) (one other : Text) → canonical_line name st ≡ one → canonical_line name su ≡ other → joined (map (canonical_line name) (st ∷ su ∷ [])) ≡ one ++ other
 two_lines st su one other e f = λ i. e i ++ (append-nil (f i)) i
 
-lines-flat_map : (f : ℕ → List Statement) (text : ℕ → Text) → ((i : ℕ) → joined (map (canonical_line name) (f i)) ≡ text i) → (ns : List ℕ) → joined (map (canonical_line name) (flat_map f ns)) ≡ flat_map text ns
+lines-flat_map : (f : ℕ → List Statement) (text : ℕ → Text) → ((i : ℕ) → joined (map (canonical_line name) (f i)) ≡ text i) → (ns : List ℕ)
+    → joined (map (canonical_line name) (flat_map f ns)) ≡ flat_map text ns
 lines-flat_map f text each [] = refl
 lines-flat_map f text each (n ∷ ns) =
     ap joined (map-append (canonical_line name) (f n) (flat_map f ns)) ∙ joined-append (map (canonical_line name) (f n)) (map (canonical_line name) (flat_map f ns))
@@ -187,7 +192,8 @@ ring-lines n i = two_lines _ _ _ _ (numbered-line i) (edge-line (3 * i) (3 * ((i
 pair-lines : (j : ℕ) → joined (map (canonical_line name) (pair_statements j)) ≡ pair_lines j
 unfolding pair_statements
 pair-lines j =
-    two_lines _ _ _ _ (edge-line (3 * j + 1) (3 * j + 2) j j (codes "http://e/pair") 97 98 (name-a j) (name-b j)) (edge-line (3 * j + 2) (3 * j + 1) j j (codes "http://e/pair") 98 97 (name-b j) (name-a j))
+    two_lines _ _ _ _ (edge-line (3 * j + 1) (3 * j + 2) j j (codes "http://e/pair") 97 98 (name-a j) (name-b j))
+    (edge-line (3 * j + 2) (3 * j + 1) j j (codes "http://e/pair") 98 97 (name-b j) (name-a j))
 
 pub document-lines : (n : ℕ) → joined (map (canonical_line name) (statements_of n)) ≡ load_document n
 unfolding statements_of load_document

@@ -18,7 +18,9 @@ ring_lines n i = number_line i ++ edge_line (codes "_:n") i (codes " <http://e/n
 
 -- two nodes that point at each other
 abbrev pub pair_lines : ℕ → Text
-pair_lines j = edge_line (codes "_:a") j (codes " <http://e/pair> _:b") j ++ edge_line (codes "_:b") j (codes " <http://e/pair> _:a") j
+pair_lines j =
+    edge_line (codes "_:a") j (codes " <http://e/pair> _:b") j
+    ++ edge_line (codes "_:b") j (codes " <http://e/pair> _:a") j
 
 -- a ring of n nodes, and a pair for each hundred of them
 unfoldable pub load_document : ℕ → Text

@@ -80,7 +80,8 @@ pub record HasWritten (start : PathChoice) (before written : Text) (past : Bool)
   pub choice : IsSameChoice start now
   pub skips : skips (chosen_if start.has_choice start.chosen) now.path ≡ past
 
-pub has_written : (start old mid new : PathChoice) (written : Text) (past : Bool) → IsSameChoice start old → mid ≡ record { path = old.path ++ written; has_choice = old.has_choice; chosen = old.chosen }
+pub has_written : (start old mid new : PathChoice) (written : Text) (past : Bool) → IsSameChoice start old
+    → mid ≡ record { path = old.path ++ written; has_choice = old.has_choice; chosen = old.chosen }
     → past ≡ skips (chosen_if mid.has_choice mid.chosen) mid.path → new ≡ mid → HasWritten start old.path written past new
 has_written start old mid new written past same writes test unchanged =
     let all : new ≡ record { path = old.path ++ written; has_choice = old.has_choice; chosen = old.chosen } = unchanged ∙ writes in
@@ -111,7 +112,8 @@ same_choice-written old mid new first second e f = record {
   chosen = ap (λ (p : PathChoice). p.chosen) f ∙ ap (λ (p : PathChoice). p.chosen) e;
 }
 
-pub path-written : (old mid : PathChoice) (path first first' second : Text) → mid ≡ record { path = old.path ++ first; has_choice = old.has_choice; chosen = old.chosen } → first ≡ first' → path ≡ mid.path ++ second
+pub path-written : (old mid : PathChoice) (path first first' second : Text) → mid ≡ record { path = old.path ++ first; has_choice = old.has_choice; chosen = old.chosen } → first ≡ first'
+    → path ≡ mid.path ++ second
     → path ≡ old.path ++ (first' ++ second)
 path-written old mid path first first' second e same is =
     is ∙ ap (λ (p : PathChoice). p.path ++ second) e ∙ ap (λ t. (old.path ++ t) ++ second) same ∙ append_assoc old.path first' second

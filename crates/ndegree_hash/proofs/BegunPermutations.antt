@@ -30,7 +30,8 @@ begun ρ call c t f skipped b =
     cond skipped (after_permutation ρ call c (group_of t f (behind f.arrangement)) None)
     (in_recursion ρ call c (group_of t f (behind f.arrangement)) (path_of_identifiers c b f.arrangement) (issuer_copy_after c b f.arrangement) (recursion_list c b f.arrangement))
 
-pub begin-unfolds : (ρ : Hashing) (call : CountedCall) (c t : List ℕ) (f : Frame) → IsAt t f Begin → rest_of ρ call c t f Begin ≡ after one_unit (begun ρ call c t f (is_skipped (chosen_if f.paths.has_choice f.paths.chosen) c t [] f.arrangement) t)
+pub begin-unfolds : (ρ : Hashing) (call : CountedCall) (c t : List ℕ) (f : Frame) → IsAt t f Begin
+    → rest_of ρ call c t f Begin ≡ after one_unit (begun ρ call c t f (is_skipped (chosen_if f.paths.has_choice f.paths.chosen) c t [] f.arrangement) t)
 unfolding begin_permutation
 begin-unfolds ρ call c t f at =
     between_permutations-begin ρ call c (group_of t f (f.arrangement ∷ behind f.arrangement)) f.arrangement (behind f.arrangement) refl
@@ -56,7 +57,8 @@ begin-written ρ call c t u f path at w =
     ∙ ap (λ n. after one_unit (in_recursion ρ call c (group_of t f ps) path u (part u n (length u)))) (sym at.0)
     ∙ ap (λ (g : OpenGroup). after one_unit (in_recursion ρ call c g path u (part u f.mark (length u)))) (sym (walked-group t u f ps at w.begins))
 
-walks-at : (c t : List ℕ) (nodes nodes' : List ℕ) (chosen : Option Text) (s s' : Bool) (u : List ℕ) (path : Text) → Walks c t nodes chosen s u path → nodes ≡ nodes' → s ≡ s' → Walks c t nodes' chosen s' u path
+walks-at : (c t : List ℕ) (nodes nodes' : List ℕ) (chosen : Option Text) (s s' : Bool) (u : List ℕ) (path : Text) → Walks c t nodes chosen s u path → nodes ≡ nodes' → s ≡ s'
+    → Walks c t nodes' chosen s' u path
 walks-at c t nodes nodes' chosen s s' u path w a e = subst (λ v. Walks c t nodes' chosen v u path) e (subst (λ p. Walks c t p chosen s u path) a w)
 
 -- the walk was begun with no path, and what was chosen before

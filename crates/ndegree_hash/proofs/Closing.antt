@@ -3,7 +3,7 @@ use Rattle.std.proofs.Common.{Bool, List, None, Some, [], ap, arith, cond, drop,
 use Rattle.std.proofs.lemmas.List.{length-take, length-take-le, map-append, take-append-drop, take-append-le, take_all}
 use Rattle.rdf_terms.specs.Dataset.{Dataset}
 use Rattle.rdf_terms.specs.Lists.{In}
-use Rattle.rdf_terms.proofs.Membership.{In-append_right}
+use Rattle.rdf_terms.proofs.Membership.{In-append_right, In-map}
 use Rattle.canon_model.specs.CountedRun.{Tie, issuer_or, logged, path_or_none, ties_of_chosen}
 use Rattle.ndegree_hash.specs.declared.frame.Frame.{Frame}
 use Rattle.ndegree_hash.specs.declared.at.At.TheVariants.{Close, Group}
@@ -39,7 +39,8 @@ In-get (x ∷ xs) zero d h = inl refl
 In-get (x ∷ xs) (suc k) d h = inr (In-get xs k d (omega arith))
 
 -- each of these nodes has a number of 32 bits
-pub aside-fits : (D : Dataset) (c t : List ℕ) (f : Frame) (most : ℕ) → f.paths.has_choice ≡ true → f.on_trail ≡ false → IsKnown D c t f → D.nodes ≤ most → (k d : ℕ) → k < length f.tail.items → get_or f.tail.items k d < most
+pub aside-fits : (D : Dataset) (c t : List ℕ) (f : Frame) (most : ℕ) → f.paths.has_choice ≡ true → f.on_trail ≡ false → IsKnown D c t f → D.nodes ≤ most → (k d : ℕ) → k < length f.tail.items
+    → get_or f.tail.items k d < most
 aside-fits D c t f most e aside known fits k d h =
     let low = (aside-trail D c t f e aside known).nodes (get_or f.tail.items k d) (In-append_right (take f.mark t) f.tail.items (get_or f.tail.items k d) (In-get f.tail.items k d h)) in
     omega arith
@@ -68,7 +69,8 @@ chosen-long t u f h e =
 
 -- ---- the group is closed
 
-pub close-chosen : (c t u : List ℕ) (f g : Frame) → f.mark ≤ length t → f.paths.has_choice ≡ true → u ≡ chosen_issuer t f → g.text.items ≡ f.text.items ++ f.paths.chosen → g.groups ≡ f.groups → g.mark ≡ f.mark
+pub close-chosen : (c t u : List ℕ) (f g : Frame) → f.mark ≤ length t → f.paths.has_choice ≡ true → u ≡ chosen_issuer t f → g.text.items ≡ f.text.items ++ f.paths.chosen → g.groups ≡ f.groups
+    → g.mark ≡ f.mark
     → Leads c t f Close (logged (ties_at c t f Close)) u g Group
 close-chosen c t u f g m has trail text groups mark =
     close-leads c t u f g m (trail ∙ ap (λ ch. issuer_or ch (take f.mark t)) (sym (choice-some t f has))) (ap (λ v. take f.mark v) trail ∙ chosen-below t f m)
@@ -101,22 +103,19 @@ ties-are c t u f m has trail =
 pub no_ties : (c t : List ℕ) (f : Frame) → f.paths.has_choice ≡ false → [] ≡ ties_at c t f Close
 no_ties c t f none = ap (λ ch. ties_of_chosen ch c (take f.mark t)) (sym (choice-none t f none))
 
-In-map : {A B : Type 0} (f : A → B) (xs : List A) (x : A) → In x xs → In (f x) (map f xs)
-In-map f [] x h = absurd h
-In-map f (y ∷ xs) x (inl e) = inl (ap f e)
-In-map f (y ∷ xs) x (inr h) = inr (In-map f xs x h)
-
 pub others-may_be_checked : (D : Dataset) (c t u : List ℕ) (f : Frame) → f.mark ≤ length t → f.paths.has_choice ≡ true → u ≡ chosen_issuer t f → MayBeLogged D (ties_at c t f Close)
     → (k : ℕ) (d : List ℕ) → k < length f.others.items → TailMayBeChecked D c f.mark u (get_or f.others.items k d)
 others-may_be_checked D c t u f m has trail may k d h =
     let tail : List ℕ = get_or f.others.items k d in
     record {
       within = chosen-long t u f m trail;
-      exchanged = may (tie_with c f.mark u tail) (subst (λ (ties : List Tie). In (tie_with c f.mark u tail) ties) (ties-are c t u f m has trail) (In-map (tie_with c f.mark u) f.others.items tail (In-get f.others.items k d h)));
+      exchanged = may (tie_with c f.mark u tail)
+          (subst (λ (ties : List Tie). In (tie_with c f.mark u tail) ties) (ties-are c t u f m has trail) (In-map (tie_with c f.mark u) f.others.items tail (In-get f.others.items k d h)));
     }
 
 -- one more of them
-pub others-next : (D : Dataset) (c : List ℕ) (m : ℕ) (t : List ℕ) (done : List (List ℕ)) (tail : List ℕ) (more : List (List ℕ)) (old mid new : LoggedTies) → more ≡ done ++ tail ∷ [] → LogsInTurn D (map (tie_with c m t) done) old mid
+pub others-next : (D : Dataset) (c : List ℕ) (m : ℕ) (t : List ℕ) (done : List (List ℕ)) (tail : List ℕ) (more : List (List ℕ)) (old mid new : LoggedTies) → more ≡ done ++ tail ∷ []
+    → LogsInTurn D (map (tie_with c m t) done) old mid
     → Logs D (record { canon = c; passed = m; left = t; right = right_of m t tail }) mid new → LogsInTurn D (map (tie_with c m t) more) old new
 others-next D c m t done tail more old mid new e h l =
     subst (λ ties. LogsInTurn D ties old new) (sym (ap (map (tie_with c m t)) e ∙ map-last done))
@@ -127,7 +126,8 @@ others-next D c m t done tail more old mid new e h l =
     map-last (x ∷ xs) = ap (λ (ties : List Tie). tie_with c m t x ∷ ties) (map-last xs)
 
 -- so many of them were logged, and no more
-pub front-of_others : (D : Dataset) (c : List ℕ) (m : ℕ) (t : List ℕ) (k : ℕ) (others : List (List ℕ)) (old mid new : LoggedTies) → new ≡ mid → LogsInTurn D (map (tie_with c m t) (take k others)) old mid
+pub front-of_others : (D : Dataset) (c : List ℕ) (m : ℕ) (t : List ℕ) (k : ℕ) (others : List (List ℕ)) (old mid new : LoggedTies) → new ≡ mid
+    → LogsInTurn D (map (tie_with c m t) (take k others)) old mid
     → LogsFront (LogsInTurn D) (map (tie_with c m t) others) old new
 front-of_others D c m t k others old mid new e logs = record {
   front = map (tie_with c m t) (take k others);

@@ -24,7 +24,8 @@ pub choose-leads : (c t : List ℕ) (f g : Frame) → IsInGroup t f → choice_o
     → Leads c t f Ended nothing t g Between
 choose-leads c t f g r chosen text groups mark arrangement = record {
   same = λ ρ call.
-      let between : Text → List Bag → ℕ → Option Chosen → List ℕ → Counted Outcome = λ π bags m ch p. between_permutations ρ call c (record { text = π; bags = bags; begun = take m t; chosen = ch; left = behind p }) in
+      let between : Text → List Bag → ℕ → Option Chosen → List ℕ
+      → Counted Outcome = λ π bags m ch p. between_permutations ρ call c (record { text = π; bags = bags; begun = take m t; chosen = ch; left = behind p }) in
       ap (λ π. between π f.groups f.mark (chosen_next t f) f.arrangement) (sym text)
       ∙ ap (λ bags. between g.text.items bags f.mark (chosen_next t f) f.arrangement) (sym groups)
       ∙ ap (λ m. between g.text.items g.groups m (chosen_next t f) f.arrangement) (sym mark)
@@ -56,7 +57,9 @@ chosen_next-better t f e = by f.paths.has_choice e
 
 -- where the path is not better, the old choice stays, with the other issuer beside it where the paths are equal
 pub chosen_next-other : (t : List ℕ) (f : Frame) (same : Bool) → (if f.paths.has_choice then is_before f.paths.path f.paths.chosen else true) ≡ false → bytes_eq f.paths.path f.paths.chosen ≡ same
-    → (if same then Some (record { path = f.paths.chosen; issuer = cond f.on_trail t (take f.mark t ++ f.tail.items); others = map (λ tail. take f.mark t ++ tail) f.others.items ++ t ∷ [] }) else choice_of t f) ≡ chosen_next t f
+    → (if same then Some
+    (record { path = f.paths.chosen; issuer = cond f.on_trail t (take f.mark t ++ f.tail.items); others = map (λ tail. take f.mark t ++ tail) f.others.items ++ t ∷ [] }) else choice_of t f)
+    ≡ chosen_next t f
 chosen_next-other t f same e d = by f.paths.has_choice e
   where
     old : Chosen
@@ -98,8 +101,10 @@ between-begins c t f g m next same_group mark aside =
       same = λ ρ call.
           ap (λ left. between_permutations ρ call c (group_of t f left)) next
           ∙ ap (λ (h : OpenGroup). between_permutations ρ call c h) (sym (same_group (g.arrangement ∷ behind g.arrangement)))
-          ∙ ap (λ (ch : Option Chosen). between_permutations ρ call c (record { text = g.text.items; bags = g.groups; begun = take g.mark t; chosen = ch; left = g.arrangement ∷ behind g.arrangement })) (sym (choice-kept t (take g.mark t) g aside e))
-          ∙ ap (λ (b : List ℕ). between_permutations ρ call c (record { text = g.text.items; bags = g.groups; begun = b; chosen = choice_of (take g.mark t) g; left = g.arrangement ∷ behind g.arrangement })) (sym e)
+          ∙ ap (λ (ch : Option Chosen). between_permutations ρ call c
+          (record { text = g.text.items; bags = g.groups; begun = take g.mark t; chosen = ch; left = g.arrangement ∷ behind g.arrangement })) (sym (choice-kept t (take g.mark t) g aside e))
+          ∙ ap (λ (b : List ℕ). between_permutations ρ call c
+          (record { text = g.text.items; bags = g.groups; begun = b; chosen = choice_of (take g.mark t) g; left = g.arrangement ∷ behind g.arrangement })) (sym e)
           ∙ sym (after-nothing (rest_of ρ call c (take g.mark t) g Begin));
       stands = (sym l, aside);
       mark = omega arith;

@@ -34,8 +34,12 @@ pub group-begins : (c t : List ℕ) (f g : Frame) (bag : Bag) → f.mark ≤ len
     → g.mark ≡ length t → g.paths.has_choice ≡ false → g.on_trail ≡ false → Leads c t f Group nothing t g Begin
 group-begins c t f g bag m bags text first mark none aside = record {
   same = λ ρ call.
-      let between : Text → List ℕ → Option Chosen → List (List ℕ) → Counted Outcome = λ π b chosen left. between_permutations ρ call c (record { text = π; bags = g.groups; begun = b; chosen = chosen; left = left }) in
-      let no_choice : choice_of t g ≡ None = ap (λ (b : Bool). cond b (Some (record { path = g.paths.chosen; issuer = cond g.on_trail t (take g.mark t ++ g.tail.items); others = map (λ tail. take g.mark t ++ tail) g.others.items })) None) none in
+      let between : Text → List ℕ → Option Chosen → List (List ℕ)
+      → Counted Outcome = λ π b chosen left. between_permutations ρ call c (record { text = π; bags = g.groups; begun = b; chosen = chosen; left = left }) in
+      let no_choice : choice_of t g
+      ≡ None = ap
+      (λ (b : Bool). cond b
+      (Some (record { path = g.paths.chosen; issuer = cond g.on_trail t (take g.mark t ++ g.tail.items); others = map (λ tail. take g.mark t ++ tail) g.others.items })) None) none in
       ap (λ bs. after_groups ρ call c f.text.items bs t) bags
       ∙ after_groups-next ρ call c f.text.items bag g.groups t
       ∙ ap (λ π. between π t None (arrangements bag.nodes)) (sym text)

@@ -4,7 +4,7 @@ use Rattle.rdf_terms.specs.Dataset.{Dataset}
 use Rattle.rdf_terms.specs.Lists.{AreDistinct, In, Permutes}
 use Rattle.rdf_terms.proofs.Permutations.{In-Permutes, Permutes-sym}
 use Rattle.arrangements.specs.Arrangements.{IsFirst}
-use Rattle.rdf_terms.proofs.Membership.{In-append}
+use Rattle.rdf_terms.proofs.Membership.{In-append, In-take, AreDistinct-take}
 use Rattle.canon_model.specs.Issuer.{is_issued}
 use Rattle.canon_model.specs.Walk.{issuer_copy_after_node}
 use Rattle.canon_model.proofs.Issuers.{are_distinct_from_once, are_once-push, are_once_from_distinct, not_In-from_is_issued}
@@ -20,22 +20,11 @@ use Rattle.ndegree_hash.proofs.TrailParts.{group-same}
 use Rattle.ndegree_hash.proofs.BegunPermutations.{walked-group}
 use Rattle.ndegree_hash.specs.declared.at.At.TheVariants.{Begin}
 
-pub In-take : (x : ℕ) (k : ℕ) (t : List ℕ) → In x (take k t) → In x t
-In-take x zero t h = absurd h
-In-take x (suc k) [] h = h
-In-take x (suc k) (y ∷ t) (inl e) = inl e
-In-take x (suc k) (y ∷ t) (inr h) = inr (In-take x k t h)
-
-AreDistinct-take : (k : ℕ) (t : List ℕ) → AreDistinct t → AreDistinct (take k t)
-AreDistinct-take zero t d = tt
-AreDistinct-take (suc k) [] d = d
-AreDistinct-take (suc k) (y ∷ t) d = ((λ h. d.0 (In-take y k t h)), AreDistinct-take k t d.1)
-
 pub IsTrail-take : (D : Dataset) (c : List ℕ) (k : ℕ) (t : List ℕ) → IsTrail D c t → IsTrail D c (take k t)
 IsTrail-take D c k t r = record {
-  nodes = λ x h. r.nodes x (In-take x k t h);
+  nodes = λ x h. r.nodes x (In-take k t x h);
   once = AreDistinct-take k t r.once;
-  apart = λ x h g. r.apart x h (In-take x k t g);
+  apart = λ x h g. r.apart x h (In-take k t x g);
 }
 
 -- the frame has the same groups and the same choice, and the same arrangement or another one of the same nodes
@@ -56,7 +45,10 @@ known-same D c t u f g a e ch k = record {
 -- nothing is chosen in a group that was begun just now, or is closed
 pub sound-nothing : (D : Dataset) (c t : List ℕ) (g : Frame) → g.paths.has_choice ≡ false → IsSound D c (choice_of t g)
 sound-nothing D c t g none =
-    let no_choice : choice_of t g ≡ None = ap (λ (b : Bool). cond b (Some (record { path = g.paths.chosen; issuer = cond g.on_trail t (take g.mark t ++ g.tail.items); others = map (λ tail. take g.mark t ++ tail) g.others.items })) None) none in
+    let no_choice : choice_of t g
+    ≡ None = ap
+    (λ (b : Bool). cond b
+    (Some (record { path = g.paths.chosen; issuer = cond g.on_trail t (take g.mark t ++ g.tail.items); others = map (λ tail. take g.mark t ++ tail) g.others.items })) None) none in
     subst (IsSound D c) (sym no_choice) tt
 
 -- the next group is taken out
@@ -109,5 +101,6 @@ pub known-begun : (D : Dataset) (c t u : List ℕ) (f g : Frame) → IsAt t f Be
 known-begun D c t u f g at begins s k = known-same D c t u f g s.arrangement s.groups (ap (λ (o : OpenGroup). o.chosen) (group-same u f g [] s ∙ walked-group t u f [] at begins)) k
 
 -- a call was opened
-pub known-opened : (D : Dataset) (c t : List ℕ) (g : Frame) → ((x : ℕ) → In x g.arrangement → x < D.nodes) → ((bag : Bag) → In bag g.groups → (x : ℕ) → In x bag.nodes → x < D.nodes) → g.paths.has_choice ≡ false → IsKnown D c t g
+pub known-opened : (D : Dataset) (c t : List ℕ) (g : Frame) → ((x : ℕ) → In x g.arrangement → x < D.nodes) → ((bag : Bag) → In bag g.groups → (x : ℕ) → In x bag.nodes → x < D.nodes)
+    → g.paths.has_choice ≡ false → IsKnown D c t g
 known-opened D c t g arrangement bags none = record { arrangement = arrangement; bags = bags; chosen = sound-nothing D c t g none }

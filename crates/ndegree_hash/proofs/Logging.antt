@@ -51,11 +51,13 @@ module _ (D : Dataset) where
   }
 
   -- what the log has kept, where the first of the ties is joined
-  kept-joined : (t : Tie) (ties : List Tie) (o m n : Option CarriedTie) → IsJoinedTie D t → m ≡ o → MatchOption m (IsFirstOf D ties n) (λ f. n ≡ Some f) → MatchOption o (IsFirstOf D (t ∷ ties) n) (λ f. n ≡ Some f)
+  kept-joined : (t : Tie) (ties : List Tie) (o m n : Option CarriedTie) → IsJoinedTie D t → m ≡ o → MatchOption m (IsFirstOf D ties n) (λ f. n ≡ Some f)
+      → MatchOption o (IsFirstOf D (t ∷ ties) n) (λ f. n ≡ Some f)
   kept-joined t ties None m n j e h = first-joined t ties n j (subst (λ v. MatchOption v (IsFirstOf D ties n) (λ f. n ≡ Some f)) e h)
   kept-joined t ties (Some f) m n j e h = subst (λ v. MatchOption v (IsFirstOf D ties n) (λ f. n ≡ Some f)) e h
 
-  kept-unjoined : (carried : CarriedTie) (ties : List Tie) (o m n : Option CarriedTie) → ¬ (IsJoinedTie D (tie_of carried)) → m ≡ first_of o carried → MatchOption m (IsFirstOf D ties n) (λ f. n ≡ Some f)
+  kept-unjoined : (carried : CarriedTie) (ties : List Tie) (o m n : Option CarriedTie) → ¬ (IsJoinedTie D (tie_of carried)) → m ≡ first_of o carried
+      → MatchOption m (IsFirstOf D ties n) (λ f. n ≡ Some f)
       → MatchOption o (IsFirstOf D (tie_of carried ∷ ties) n) (λ f. n ≡ Some f)
   kept-unjoined carried ties None m n j e h =
       let is : n ≡ Some carried = subst (λ v. MatchOption v (IsFirstOf D ties n) (λ f. n ≡ Some f)) e h in
@@ -69,7 +71,8 @@ module _ (D : Dataset) where
 
   -- ---- all of them
 
-  next-joined : (carried : CarriedTie) (ties : List Tie) (old mid new : LoggedTies) → mid.total ≡ suc old.total → LogsJoined D carried old mid → LogsAll D ties mid new → LogsAll D (tie_of carried ∷ ties) old new
+  next-joined : (carried : CarriedTie) (ties : List Tie) (old mid new : LoggedTies) → mid.total ≡ suc old.total → LogsJoined D carried old mid → LogsAll D ties mid new
+      → LogsAll D (tie_of carried ∷ ties) old new
   next-joined carried ties old mid new total j r = record {
     total = let e = r.total in omega arith;
     joined = suc r.joined;
@@ -78,7 +81,8 @@ module _ (D : Dataset) where
     unsettled = kept-joined (tie_of carried) ties old.unsettled mid.unsettled new.unsettled j.is j.unsettled r.unsettled;
   }
 
-  next-unjoined : (carried : CarriedTie) (ties : List Tie) (old mid new : LoggedTies) → mid.total ≡ suc old.total → LogsUnjoined D carried old mid → LogsAll D ties mid new → LogsAll D (tie_of carried ∷ ties) old new
+  next-unjoined : (carried : CarriedTie) (ties : List Tie) (old mid new : LoggedTies) → mid.total ≡ suc old.total → LogsUnjoined D carried old mid → LogsAll D ties mid new
+      → LogsAll D (tie_of carried ∷ ties) old new
   next-unjoined carried ties old mid new total j r = record {
     total = let e = r.total in omega arith;
     joined = r.joined;
@@ -87,7 +91,8 @@ module _ (D : Dataset) where
     unsettled = kept-unjoined carried ties old.unsettled mid.unsettled new.unsettled j.is j.unsettled r.unsettled;
   }
 
-  next-logged : (carried : CarriedTie) (ties : List Tie) (old mid new : LoggedTies) → mid.total ≡ suc old.total → LogsJoined D carried old mid ⊎ LogsUnjoined D carried old mid → LogsAll D ties mid new → LogsAll D (tie_of carried ∷ ties) old new
+  next-logged : (carried : CarriedTie) (ties : List Tie) (old mid new : LoggedTies) → mid.total ≡ suc old.total → LogsJoined D carried old mid ⊎ LogsUnjoined D carried old mid → LogsAll D ties mid new
+      → LogsAll D (tie_of carried ∷ ties) old new
   next-logged carried ties old mid new total (inl j) r = next-joined carried ties old mid new total j r
   next-logged carried ties old mid new total (inr j) r = next-unjoined carried ties old mid new total j r
 
@@ -111,7 +116,8 @@ module _ (D : Dataset) where
   front-whole ties old new l = record { front = ties; others = []; ties_are = sym (append-nil ties); logs = l }
 
   -- some ties, and the first of some more
-  pub front-append : (a b rest whole : List Tie) (old mid new : LoggedTies) → a ++ (b ++ rest) ≡ whole → LogsInTurn D a old mid → LogsFront (LogsInTurn D) b mid new → LogsFront (LogsInTurn D) whole old new
+  pub front-append : (a b rest whole : List Tie) (old mid new : LoggedTies) → a ++ (b ++ rest) ≡ whole → LogsInTurn D a old mid → LogsFront (LogsInTurn D) b mid new
+      → LogsFront (LogsInTurn D) whole old new
   front-append a b rest whole old mid new e l f = record {
     front = a ++ f.front;
     others = f.others ++ rest;

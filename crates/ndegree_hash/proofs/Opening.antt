@@ -25,10 +25,13 @@ module _ (call : CountedCall) (c : List ℕ) where
   counted_groups-bags nodes [] (bag ∷ bags) i a = absurd a
   counted_groups-bags nodes (hash ∷ hashes) [] i a = absurd a
   counted_groups-bags nodes (hash ∷ hashes) (bag ∷ bags) i a =
-      let same : counted_permutations call None c i (arrangements (nodes hash)) ≡ counted_permutations call None c i (arrangements bag.nodes) = ap (λ ps. counted_permutations call None c i ps) (arrangements-Permutes (nodes hash) bag.nodes a.1) in
+      let same : counted_permutations call None c i (arrangements (nodes hash))
+      ≡ counted_permutations call None c i (arrangements bag.nodes) = ap (λ ps. counted_permutations call None c i ps) (arrangements-Permutes (nodes hash) bag.nodes a.1) in
       ap (λ t. group hash i t (counted_groups call c nodes hashes (issuer_or t.value i))) same
-      ∙ ap (λ rest. group hash i (counted_permutations call None c i (arrangements bag.nodes)) rest) (counted_groups-bags nodes hashes bags (issuer_or (counted_permutations call None c i (arrangements bag.nodes)).value i) a.2)
-      ∙ ap (λ h. group h i (counted_permutations call None c i (arrangements bag.nodes)) (counted_bags call c bags (issuer_or (counted_permutations call None c i (arrangements bag.nodes)).value i))) (sym a.0)
+      ∙ ap (λ rest. group hash i (counted_permutations call None c i (arrangements bag.nodes)) rest)
+      (counted_groups-bags nodes hashes bags (issuer_or (counted_permutations call None c i (arrangements bag.nodes)).value i) a.2)
+      ∙ ap (λ h. group h i (counted_permutations call None c i (arrangements bag.nodes)) (counted_bags call c bags (issuer_or (counted_permutations call None c i (arrangements bag.nodes)).value i)))
+      (sym a.0)
 
 -- a call costs one unit, and begins with no data and all its bags
 pub counted_step-opens : (ρ : Hashing) (call : CountedCall) (D : Dataset) (c : List ℕ) (n : ℕ) (i : List ℕ) (bags : List Bag) → AreBags (groups ρ D c i n).nodes (groups ρ D c i n).hashes bags

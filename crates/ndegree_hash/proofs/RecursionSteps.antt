@@ -14,7 +14,8 @@ use Rattle.ndegree_hash.specs.Resume.{OpenGroup, Waiting, after_permutation, bet
 use Rattle.ndegree_hash.specs.PathChoice.{chosen_if}
 use Rattle.ndegree_hash.proofs.Traces.{after-nothing}
 use Rattle.ndegree_hash.proofs.Unfolding.{in_recursion-end, in_recursion-next}
-use Rattle.ndegree_hash.proofs.TrailParts.{In-get_or, choice-text, group-goes_on, part-next, part-nothing}
+use Rattle.rdf_terms.proofs.MadeLists.{In-get_or}
+use Rattle.ndegree_hash.proofs.TrailParts.{choice-text, group-goes_on, part-next, part-nothing}
 
 pub recursion-ends : (c t : List ℕ) (f : Frame) → IsInRecursion t f → f.next ≡ f.last → Leads c t f Recursion nothing t f Ended
 recursion-ends c t f r e = record {
@@ -73,7 +74,9 @@ resume-skips c t f g hash r goes_on path e h = record {
     past = ap (λ ch. skips ch (f.paths.path ++ (hash ++ codes ">"))) (choice-text t f) ∙ ap (λ π. skips (chosen_if f.paths.has_choice f.paths.chosen) π) (sym e) ∙ h
 
     resumed-as : (ρ : Hashing) (call : CountedCall) → resume ρ call c w o ≡ after_permutation ρ call c (group_of t f (behind f.arrangement)) None
-    resumed-as ρ call = ap (λ (v : Bool). cond v (after_permutation ρ call c (group_of t f (behind f.arrangement)) None) (in_recursion ρ call c (group_of t f (behind f.arrangement)) (longer_path w o) t (part t f.next f.last))) past
+    resumed-as ρ call =
+        ap (λ (v : Bool). cond v (after_permutation ρ call c (group_of t f (behind f.arrangement)) None)
+        (in_recursion ρ call c (group_of t f (behind f.arrangement)) (longer_path w o) t (part t f.next f.last))) past
 
 pub resume-goes_on : (c t : List ℕ) (f g : Frame) (hash : Text) → IsInRecursion t f → GoesOn f g → g.next ≡ f.next → g.last ≡ f.last
     → g.paths.path ≡ f.paths.path ++ (hash ++ codes ">") → skips (chosen_if f.paths.has_choice f.paths.chosen) g.paths.path ≡ false → Resumes c t f hash g Recursion
@@ -100,4 +103,6 @@ resume-goes_on c t f g hash r goes_on next last e h = record {
     past = ap (λ ch. skips ch (f.paths.path ++ (hash ++ codes ">"))) (choice-text t f) ∙ ap (λ π. skips (chosen_if f.paths.has_choice f.paths.chosen) π) (sym e) ∙ h
 
     resumed-as : (ρ : Hashing) (call : CountedCall) → resume ρ call c w o ≡ in_recursion ρ call c (group_of t f (behind f.arrangement)) (longer_path w o) t (part t f.next f.last)
-    resumed-as ρ call = ap (λ (v : Bool). cond v (after_permutation ρ call c (group_of t f (behind f.arrangement)) None) (in_recursion ρ call c (group_of t f (behind f.arrangement)) (longer_path w o) t (part t f.next f.last))) past
+    resumed-as ρ call =
+        ap (λ (v : Bool). cond v (after_permutation ρ call c (group_of t f (behind f.arrangement)) None)
+        (in_recursion ρ call c (group_of t f (behind f.arrangement)) (longer_path w o) t (part t f.next f.last))) past

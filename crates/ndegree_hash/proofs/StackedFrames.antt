@@ -27,7 +27,8 @@ pub waiting-kept : (t u : List ℕ) (f : Frame) (m : ℕ) → f.mark ≤ f.next 
 waiting-kept t u f m a b d aside e =
     let low : take f.mark u ≡ take f.mark t = take_less u t f.mark m (omega arith) e in
     ap (λ (nodes : List ℕ). record { group = group_of u f (behind f.arrangement); path = f.paths.path; nodes = nodes }) (part_less u t f.next f.last m b d e)
-    ∙ ap (λ ch. record { group = record { text = f.text.items; bags = f.groups; begun = take f.mark u; chosen = ch; left = behind f.arrangement }; path = f.paths.path; nodes = part t f.next f.last }) (choice-kept t u f aside low)
+    ∙ ap (λ ch. record { group = record { text = f.text.items; bags = f.groups; begun = take f.mark u; chosen = ch; left = behind f.arrangement }; path = f.paths.path; nodes = part t f.next f.last })
+    (choice-kept t u f aside low)
     ∙ ap (λ b. record { group = record { text = f.text.items; bags = f.groups; begun = b; chosen = choice_of t f; left = behind f.arrangement }; path = f.paths.path; nodes = part t f.next f.last }) low
 
 pub first_mark-most : (below : List Frame) (m : ℕ) → AreStacked below m → first_mark below m ≤ m

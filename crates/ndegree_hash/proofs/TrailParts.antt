@@ -26,9 +26,11 @@ part-next t from to h within =
 -- what is chosen doesn't depend on the trail behind the mark, once it is kept aside
 pub choice-kept : (t u : List ℕ) (f : Frame) → f.on_trail ≡ false → take f.mark u ≡ take f.mark t → choice_of u f ≡ choice_of t f
 choice-kept t u f aside e =
-    ap (λ (v : Bool). cond f.paths.has_choice (Some (record { path = f.paths.chosen; issuer = cond v u (take f.mark u ++ f.tail.items); others = map (λ tail. take f.mark u ++ tail) f.others.items })) None) aside
+    ap (λ (v : Bool). cond f.paths.has_choice
+    (Some (record { path = f.paths.chosen; issuer = cond v u (take f.mark u ++ f.tail.items); others = map (λ tail. take f.mark u ++ tail) f.others.items })) None) aside
     ∙ ap (λ (b : List ℕ). cond f.paths.has_choice (Some (record { path = f.paths.chosen; issuer = b ++ f.tail.items; others = map (λ tail. b ++ tail) f.others.items })) None) e
-    ∙ ap (λ (v : Bool). cond f.paths.has_choice (Some (record { path = f.paths.chosen; issuer = cond v t (take f.mark t ++ f.tail.items); others = map (λ tail. take f.mark t ++ tail) f.others.items })) None) (sym aside)
+    ∙ ap (λ (v : Bool). cond f.paths.has_choice
+    (Some (record { path = f.paths.chosen; issuer = cond v t (take f.mark t ++ f.tail.items); others = map (λ tail. take f.mark t ++ tail) f.others.items })) None) (sym aside)
 
 -- a frame that goes on has the same group
 pub group-same : (t : List ℕ) (f g : Frame) (left : List (List ℕ)) → GoesOn f g → group_of t g left ≡ group_of t f left
@@ -61,11 +63,6 @@ choice-text t f = by f.paths.has_choice
     by : (b : Bool) → chosen_text (cond b (Some chosen) None) ≡ cond b (Some f.paths.chosen) None
     by true = refl
     by false = refl
-
-pub In-get_or : (t : List ℕ) (k d : ℕ) → k < length t → In (get_or t k d) t
-In-get_or [] k d h = omega arith
-In-get_or (x ∷ t) zero d h = inl refl
-In-get_or (x ∷ t) (suc k) d h = inr (In-get_or t k d (omega arith))
 
 pub take_mark : (t : List ℕ) (m : ℕ) → m ≡ length t → take m t ≡ t
 take_mark t m e = take_all m t (omega arith)

@@ -81,7 +81,10 @@ module _ (ρ : Hashing) (call : CountedCall) (c : List ℕ) where
       finished : Option Outcome → Counted (Option Chosen)
       finished o = counted_permutations call (choose g.chosen o) c g.begun ps
 
-      by : (s : Bool) → whole (goes_on (tried s)) ≡ after one_unit (cond s (after_permutation ρ call c behind None) (in_recursion ρ call c behind (path_of_identifiers c g.begun p) (issuer_copy_after c g.begun p) (recursion_list c g.begun p)))
+      by : (s : Bool)
+          → whole (goes_on (tried s))
+          ≡ after one_unit
+          (cond s (after_permutation ρ call c behind None) (in_recursion ρ call c behind (path_of_identifiers c g.begun p) (issuer_copy_after c g.begun p) (recursion_list c g.begun p)))
       by true = sym (after-after one_unit (finished None).trace (after_choice ρ call c g (finished None).value))
       by false =
           let end : Counted Outcome = after_choice ρ call c g (finished rest.value).value in

@@ -17,7 +17,8 @@ abbrev pub value_of_call : Hashing → Dataset → List ℕ → ℕ → List ℕ
 value_of_call ρ D c n i = (counted_call ρ D c n i).value
 
 -- the hash and the list that a call gives: an outcome that the standard allows, and among these that of the counted run
-pub record IsCallResult (ρ : Hashing) (D : Dataset) (c : List ℕ) (n : ℕ) (i : List ℕ) (hash : Text) (j : List ℕ) : Type 0 where
+pub record IsCallResult (ρ : Hashing) (D : Dataset) (c : List ℕ) (n : ℕ) (i : List ℕ) (hash : Text)
+    (j : List ℕ) : Type 0 where
   pub outcome : HashNDegreeQuads ρ D c n i hash j
   pub valid : IsValidCall D c n j
   pub hash_is : hash ≡ (value_of_call ρ D c n i).text
@@ -40,4 +41,6 @@ LogsFrontOfCall ρ D c n i old new = LogsFront (LogsAll D) (trace_of_call ρ D c
 
 -- each outcome of the call is this one but for a symmetry that fixes the issuers passed in
 abbrev pub IsOnlyOutcome : Hashing → Dataset → List ℕ → ℕ → List ℕ → Type 0
-IsOnlyOutcome ρ D c n i = (hash : Text) (j : List ℕ) → HashNDegreeQuads ρ D c n i hash j → IsSameButForSymmetry D c i (value_of_call ρ D c n i) hash j
+IsOnlyOutcome ρ D c n i =
+    (hash : Text) (j : List ℕ) → HashNDegreeQuads ρ D c n i hash j
+    → IsSameButForSymmetry D c i (value_of_call ρ D c n i) hash j

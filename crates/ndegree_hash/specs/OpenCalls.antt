@@ -23,7 +23,8 @@ first_mark (f ∷ frames) m = f.mark
 
 abbrev pub AreStacked : List Frame → ℕ → Type 0
 AreStacked [] m = Unit {0}
-AreStacked (f ∷ frames) m = (f.mark ≤ f.next) × (f.next ≤ f.last) × (f.last ≤ first_mark frames m) × (f.on_trail ≡ false) × AreStacked frames m
+AreStacked (f ∷ frames) m =
+    (f.mark ≤ f.next) × (f.next ≤ f.last) × (f.last ≤ first_mark frames m) × (f.on_trail ≡ false) × AreStacked frames m
 
 -- a call of n was opened at the trail t
 pub record IsOpened (ρ : Hashing) (D : Dataset) (c : List ℕ) (n : ℕ) (t : List ℕ) (f : Frame) : Type 0 where
@@ -34,7 +35,8 @@ pub record IsOpened (ρ : Hashing) (D : Dataset) (c : List ℕ) (n : ℕ) (t : L
   pub known : IsKnown D c t f
 
 -- the innermost of the waiting frames was taken out and given the hash
-pub record IsResumed (c t : List ℕ) (below : List Frame) (hash : Text) (rest : List Frame) (f : Frame) (to : At) : Type 0 where
+pub record IsResumed (c t : List ℕ) (below : List Frame) (hash : Text) (rest : List Frame) (f : Frame)
+    (to : At) : Type 0 where
   pub caller : Frame
   pub below_is : below ≡ rest ++ caller ∷ []
   pub resumes : Resumes c t caller hash f to
@@ -54,8 +56,10 @@ pub record Account : Type 0 where
   pub spent : ℕ
   pub log : LoggedTies
 
--- The state of the machine in a run of the call that gives `whole`, begun at the account `before`: what was counted and logged so far, and what is left, are the whole.
-pub record IsRunning (ρ : Hashing) (D : Dataset) (call : CountedCall) (c : List ℕ) (whole : Counted Outcome) (before : Account) (t : List ℕ) (below : List Frame) (f : Frame) (at : At) (now : Account) : Type 0 where
+-- The state of the machine in a run of the call that gives `whole`, begun at the account `before`: what was counted and
+-- logged so far, and what is left, are the whole.
+pub record IsRunning (ρ : Hashing) (D : Dataset) (call : CountedCall) (c : List ℕ) (whole : Counted Outcome)
+    (before : Account) (t : List ℕ) (below : List Frame) (f : Frame) (at : At) (now : Account) : Type 0 where
   pub trace : Trace
   pub units : now.spent ≡ before.spent + trace.units
   pub logs : LogsInTurn D trace.ties before.log now.log
@@ -64,7 +68,8 @@ pub record IsRunning (ρ : Hashing) (D : Dataset) (call : CountedCall) (c : List
   pub stacked : AreStacked below f.mark
 
 -- the call gave this hash and the trail u, and this is the account now
-pub record IsFinished (D : Dataset) (whole : Counted Outcome) (before : Account) (hash : Text) (u : List ℕ) (now : Account) : Type 0 where
+pub record IsFinished (D : Dataset) (whole : Counted Outcome) (before : Account) (hash : Text) (u : List ℕ)
+    (now : Account) : Type 0 where
   pub hash_is : hash ≡ whole.value.text
   pub list_is : u ≡ whole.value.issuer
   pub units : now.spent ≡ before.spent + whole.trace.units

@@ -24,7 +24,8 @@ ties_at c t f Return = []
 abbrev pub MayBeLogged : Dataset → List Tie → Type 0
 MayBeLogged D ties = (tie : Tie) → In tie ties → MayBeExchanged D tie.canonical tie.passed tie.left tie.right
 
--- The ties that the permutations begun so far may still give: one for each other permutation with the chosen path, and one for that in progress. A unit was spent for each of them.
+-- The ties that the permutations begun so far may still give: one for each other permutation with the chosen path, and
+-- one for that in progress. A unit was spent for each of them.
 abbrev pub in_progress : At → ℕ
 in_progress Group = 0
 in_progress Begin = 0

@@ -18,7 +18,8 @@ after_groups ρ call c text bags i =
 
 -- ---- a call in a group
 
--- The data so far, with the group's related hash; the bags behind it; the issuer when it was begun; what is chosen so far; and the permutations that were not begun yet.
+-- The data so far, with the group's related hash; the bags behind it; the issuer when it was begun; what is chosen so
+-- far; and the permutations that were not begun yet.
 pub record OpenGroup : Type 0 where
   pub text : Text
   pub bags : List Bag
@@ -29,7 +30,8 @@ pub record OpenGroup : Type 0 where
 -- all permutations were tried, and this was chosen
 unfoldable pub after_choice : Hashing → CountedCall → List ℕ → OpenGroup → Option Chosen → Counted Outcome
 after_choice ρ call c g chosen =
-    after (logged (ties_of_chosen chosen c g.begun)) (after_groups ρ call c (g.text ++ path_or_none chosen) g.bags (issuer_or chosen g.begun))
+    after (logged (ties_of_chosen chosen c g.begun))
+    (after_groups ρ call c (g.text ++ path_or_none chosen) g.bags (issuer_or chosen g.begun))
 
 -- no permutation is in progress
 unfoldable pub between_permutations : Hashing → CountedCall → List ℕ → OpenGroup → Counted Outcome
@@ -38,7 +40,8 @@ between_permutations ρ call c g =
     after tried.trace (after_choice ρ call c g tried.value)
 
 abbrev pub with_choice : OpenGroup → Option Outcome → OpenGroup
-with_choice g tried = record { text = g.text; bags = g.bags; begun = g.begun; chosen = choose g.chosen tried; left = g.left }
+with_choice g tried =
+    record { text = g.text; bags = g.bags; begun = g.begun; chosen = choose g.chosen tried; left = g.left }
 
 -- the permutation in progress has come to its end, or is skipped
 abbrev pub after_permutation : Hashing → CountedCall → List ℕ → OpenGroup → Option Outcome → Counted Outcome
@@ -55,11 +58,13 @@ unfoldable pub begin_permutation : Hashing → CountedCall → List ℕ → Open
 begin_permutation ρ call c g p left =
     let h : OpenGroup = record { text = g.text; bags = g.bags; begun = g.begun; chosen = g.chosen; left = left } in
     if is_skipped (chosen_text g.chosen) c g.begun [] p then after_permutation ρ call c h None
-    else in_recursion ρ call c h (path_of_identifiers c g.begun p) (issuer_copy_after c g.begun p) (recursion_list c g.begun p)
+    else in_recursion ρ call c h (path_of_identifiers c g.begun p) (issuer_copy_after c g.begun p)
+    (recursion_list c g.begun p)
 
 -- ---- a call that waits for one that it has made
 
--- the call was made behind this path, which ends in the called node's identifier and `<`, and those of `nodes` come behind it
+-- the call was made behind this path, which ends in the called node's identifier and `<`, and those of `nodes` come
+-- behind it
 pub record Waiting : Type 0 where
   pub group : OpenGroup
   pub path : Text

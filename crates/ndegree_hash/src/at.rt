@@ -1,6 +1,6 @@
 //! The places of a call.
 
-/// Where the running call is.
+// Where the running call is.
 #[derive(Clone, Copy, Debug)]
 pub(crate) enum At {
     /// Between two groups.

@@ -5,7 +5,7 @@ use crate::paths::Paths;
 use arrangements::Arrangement;
 use rdf_terms::NodeList;
 
-/// A call that stands open.
+// A call that stands open.
 #[derive(Drop)]
 pub(crate) struct Frame {
     /// The data to hash so far; in a group with its related hash.

@@ -22,7 +22,7 @@ use id_issuer::{Issuer, Mark};
 use rdf_terms::{NoMemory, NodeList};
 use std::alloc::Global;
 
-/// Begins the next group, or ends the call.
+// Begins the next group, or ends the call.
 pub(crate) fn next_group(
     alloc: Global,
     canon: &Issuer,
@@ -83,8 +83,8 @@ fn log_others(
     Ok(())
 }
 
-/// Ends the group: the chosen issuer is on the trail, the chosen path in the data, and the ties of the
-/// other permutations with that path in the log.
+// Ends the group: the chosen issuer is on the trail, the chosen path in the data, and the ties of the
+// other permutations with that path in the log.
 pub(crate) fn close(
     alloc: Global,
     dataset: &Dataset,

@@ -14,7 +14,7 @@ use id_issuer::{Issuer, Mark};
 use rdf_terms::{NoMemory, NodeList, Prefix};
 use std::alloc::Global;
 
-/// Writes the permutation that stands in the frame.
+// Writes the permutation that stands in the frame.
 pub(crate) fn begin(canon: &Issuer, trail: &mut Issuer, frame: &mut Frame) -> Result<At, NoMemory>
     requires at { IsAt trail.old.list frame.old At.Begin }
     requires nodes { All (λ n. n < u32.MAX) frame.old.arrangement }
@@ -44,7 +44,7 @@ fn behind_mark(alloc: Global, trail: &Issuer, mark: u32) -> Result<Vec<u32>, NoM
     Ok(list[mark as usize..].to_vec(alloc)?)
 }
 
-/// Compares a permutation that was tried to its end with what was chosen.
+// Compares a permutation that was tried to its end with what was chosen.
 pub(crate) fn choose(
     alloc: Global,
     canon: &Issuer,
@@ -81,7 +81,7 @@ fn keep_aside(alloc: Global, trail: &Issuer, frame: &mut Frame) -> Result<(), No
     Ok(())
 }
 
-/// Goes on to the next permutation of the group, or to the group's end.
+// Goes on to the next permutation of the group, or to the group's end.
 pub(crate) fn next_permutation(
     alloc: Global,
     canon: &Issuer,

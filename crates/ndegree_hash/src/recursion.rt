@@ -14,7 +14,7 @@ use canon_model::HexHash;
 use id_issuer::Issuer;
 use rdf_terms::{NoMemory, Prefix};
 
-/// Makes the next call of the recursion list.
+// Makes the next call of the recursion list.
 pub(crate) fn next_call(canon: &Issuer, trail: &Issuer, frame: &mut Frame) -> Result<At, NoMemory>
     requires at { IsAt trail.now.list frame.old At.Recursion }
     requires canonical { canon.now.prefix ≡ Prefix.Canonical }
@@ -33,7 +33,7 @@ pub(crate) fn next_call(canon: &Issuer, trail: &Issuer, frame: &mut Frame) -> Re
     Ok(At::Call(node))
 }
 
-/// Takes the hash of the call that the frame waits for.
+// Takes the hash of the call that the frame waits for.
 pub(crate) fn resume(
     canon: &Issuer,
     trail: &Issuer,

@@ -20,7 +20,7 @@ use id_issuer::Issuer;
 use rdf_terms::{NoMemory, Prefix};
 use std::alloc::Global;
 
-/// One step of the running frame that spends no unit.
+// One step of the running frame that spends no unit.
 pub(crate) fn step(
     alloc: Global,
     dataset: &Dataset,

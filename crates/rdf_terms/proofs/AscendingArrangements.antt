@@ -8,7 +8,7 @@ use Rattle.rdf_terms.proofs.Membership.{In-append, from_In-map}
 use Rattle.rdf_terms.proofs.TextOrder.{is_before-asym, is_before-irrefl}
 use Rattle.rdf_terms.specs.Lists.{AreDistinct, In, is_before}
 use Rattle.rdf_terms.specs.Arrangements.{AreStrictlyAscending, arrangements, arrangements_of_length, ascending_once, insert_once, without}
-use Rattle.rdf_terms.proofs.Arrangements.{In-arrangements, from_In-arrangements, from_In-insert_once}
+use Rattle.rdf_terms.proofs.Arrangements.{from_In-insert_once}
 use Rattle.rdf_terms.proofs.MadeLists.{from_In-flat_map}
 
 abbrev AreAscendingNodes : List ℕ → Type 0

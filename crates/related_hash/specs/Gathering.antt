@@ -39,7 +39,8 @@ abbrev pub AllArranged : Hashing → List Group → List Group → Type 0
 AllArranged ρ [] [] = Unit {0}
 AllArranged ρ [] (group ∷ groups) = ⊥
 AllArranged ρ (open_group ∷ open_groups) [] = ⊥
-AllArranged ρ (open_group ∷ open_groups) (group ∷ groups) = IsArranged ρ open_group group × AllArranged ρ open_groups groups
+AllArranged ρ (open_group ∷ open_groups) (group ∷ groups) =
+    IsArranged ρ open_group group × AllArranged ρ open_groups groups
 
 -- some groups are left, and those before them are arranged
 pub record AreArrangedBefore (ρ : Hashing) (groups left arranged : List Group) : Type 0 where

@@ -38,14 +38,16 @@ length_take (suc k) [] (y ∷ m) e = cc
 length_take (suc k) (x ∷ l) [] e = cc
 length_take (suc k) (x ∷ l) (y ∷ m) e = ap suc (length_take k l m (cc))
 
-moved-more : (l m : List ℕ) (k : ℕ) → k < length l → length l ≡ length m → moved_by_place (take (k + 1) l) (take (k + 1) m) ≡ moved_by_place (take k l) (take k m) ++ moved_at (get_or l k 0) (get_or m k 0)
+moved-more : (l m : List ℕ) (k : ℕ) → k < length l → length l ≡ length m
+    → moved_by_place (take (k + 1) l) (take (k + 1) m) ≡ moved_by_place (take k l) (take k m) ++ moved_at (get_or l k 0) (get_or m k 0)
 moved-more l m k h e =
     let g : k < length m = omega arith in
     ap (λ w. moved_by_place w (take (k + 1) m)) (take_more l k 0 h) ∙ ap (λ w. moved_by_place (take k l ++ get_or l k 0 ∷ []) w) (take_more m k 0 g)
     ∙ moved_by_place-append (take k l) (take k m) (get_or l k 0 ∷ []) (get_or m k 0 ∷ []) (length_take k l m e)
     ∙ ap (λ w. moved_by_place (take k l) (take k m) ++ w) (append-nil (moved_at (get_or l k 0) (get_or m k 0)))
 
-pub pushed : (l m : List ℕ) (k : ℕ) (first old new : List (ℕ × ℕ)) → k < length l → length l ≡ length m → old ≡ first ++ moved_by_place (take k l) (take k m) → new ≡ old ++ (get_or l k 0, get_or m k 0) ∷ [] → ¬ (get_or l k 0 ≡ get_or m k 0)
+pub pushed : (l m : List ℕ) (k : ℕ) (first old new : List (ℕ × ℕ)) → k < length l → length l ≡ length m → old ≡ first ++ moved_by_place (take k l) (take k m)
+    → new ≡ old ++ (get_or l k 0, get_or m k 0) ∷ [] → ¬ (get_or l k 0 ≡ get_or m k 0)
     → new ≡ first ++ moved_by_place (take (k + 1) l) (take (k + 1) m)
 pushed l m k first old new h e was is other =
     is ∙ ap (λ w. w ++ (get_or l k 0, get_or m k 0) ∷ []) was ∙ append_assoc first (moved_by_place (take k l) (take k m)) ((get_or l k 0, get_or m k 0) ∷ [])
@@ -111,7 +113,8 @@ In-moved [] m e x y h p n = absurd (true≢false (sym h))
 In-moved (z ∷ l) [] e x y h p n = cc
 In-moved (z ∷ l) (w ∷ m) e x y h p n = by (eqb z x) refl h (In-moved l m (cc) x y)
   where
-    by : (t : Bool) → eqb z x ≡ t → (t || is_issued x l) ≡ true → (is_issued x l ≡ true → by_places l m x ≡ y → ¬ (x ≡ y) → In (x, y) (moved_by_place l m)) → In (x, y) (moved_at z w ++ moved_by_place l m)
+    by : (t : Bool) → eqb z x ≡ t → (t || is_issued x l) ≡ true → (is_issued x l ≡ true → by_places l m x ≡ y → ¬ (x ≡ y) → In (x, y) (moved_by_place l m))
+        → In (x, y) (moved_at z w ++ moved_by_place l m)
     by true q r ih =
         let zx : z ≡ x = eqb-true z x q in
         let wy : w ≡ y = sym (places-first z w x l m q) ∙ p in
@@ -121,7 +124,8 @@ In-moved (z ∷ l) (w ∷ m) e x y h p n = by (eqb z x) refl h (In-moved l m (cc
 -- ---- no node begins two pairs
 
 firsts-inside : (l m : List ℕ) → AreOnce l → length l ≡ length m → (x : ℕ) → In x (firsts (moved_by_place l m)) → is_issued x l ≡ true
-firsts-inside l m d e x h = let r = from_In-map (λ (p : ℕ × ℕ). p.0) (moved_by_place l m) x h in (from_In-moved l m d e x r.0.1 (subst (λ (z : ℕ). In (z, r.0.1) (moved_by_place l m)) (sym r.2) r.1)).inside
+firsts-inside l m d e x h =
+    let r = from_In-map (λ (p : ℕ × ℕ). p.0) (moved_by_place l m) x h in (from_In-moved l m d e x r.0.1 (subst (λ (z : ℕ). In (z, r.0.1) (moved_by_place l m)) (sym r.2) r.1)).inside
 
 firsts-once : (l m : List ℕ) → AreOnce l → length l ≡ length m → AreDistinct (firsts (moved_by_place l m))
 firsts-once [] m d e = tt
@@ -164,7 +168,11 @@ module _ (a b : List ℕ) (tails : AreTails a b) where
 
   pub told-apart : IsSameUnless true a b → (pairs : List (ℕ × ℕ)) → pairs ≡ moved_by_place a b ++ moved_by_place b a → TellsExchange a b pairs
   told-apart apart pairs e = subst (TellsExchange a b) (sym e) (record {
-    moved = λ x y. (λ h. elim (In-append (moved_by_place a b) (moved_by_place b a) (x, y) h) [ inl q ↦ on_left x y q | inr q ↦ on_right x y q ], λ p. by x y (is_issued x a) refl (is_issued x b) refl p.0 p.1);
+    moved = λ x y. (
+      λ h. elim (In-append (moved_by_place a b) (moved_by_place b a) (x, y) h) [ inl q ↦ on_left x y q | inr q ↦ on_right x y q ],
+      λ p. by x y (is_issued x a) refl
+          (is_issued x b) refl p.0 p.1,
+    );
     once = subst AreDistinct (sym (map-append (λ (p : ℕ × ℕ). p.0) (moved_by_place a b) (moved_by_place b a)))
         (AreDistinct-append (firsts (moved_by_place a b)) (firsts (moved_by_place b a)) (firsts-once a b left_once tails.as_long) (firsts-once b a right_once (sym tails.as_long))
         (λ x h g. apart x (In-from_is_issued x a (firsts-inside a b left_once tails.as_long x h)) (In-from_is_issued x b (firsts-inside b a right_once (sym tails.as_long) x g))));

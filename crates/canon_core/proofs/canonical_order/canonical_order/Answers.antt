@@ -13,27 +13,33 @@ pub returns-then-len-count-clause-order : goal.returns-then-len-count-clause-ord
 returns-then-len-count-clause-order c =
     let ρ = meaning c.args.profile in
     let D = dataset_of c.args.dataset.now in
-    let order = in-hash-order ρ D c.all.result.now c.node_count-count.result c.in_ok-nodes.nodes.items (c.all.ensures ∙ c.in_ok-table.ensures.hashes) c.node_count-count.ensures.count c.in_ok-nodes.ensures.permutes c.in_ok-nodes.ensures.ascends in
+    let order = in-hash-order ρ D c.all.result.now c.node_count-count.result c.in_ok-nodes.nodes.items
+    (c.all.ensures ∙ c.in_ok-table.ensures.hashes) c.node_count-count.ensures.count c.in_ok-nodes.ensures.permutes c.in_ok-nodes.ensures.ascends in
     let here = subst (IsInHashOrder ρ D) (sym c.deref.ensures.value) order in
-    let run = run-of-alone ρ D c.deref.result.now c.in_ok-alone.alone.items here (c.in_ok-alone.ensures (hash_first_degree_quads ρ D) D.nodes here.ranked) (sym c.in_ok-alone.alone.ok.0 ∙ (sym c.len.ensures ∙ c.if-len-count.true ∙ c.node_count-count.ensures.count)) in
+    let run = run-of-alone ρ D c.deref.result.now c.in_ok-alone.alone.items here (c.in_ok-alone.ensures (hash_first_degree_quads ρ D) D.nodes here.ranked)
+    (sym c.in_ok-alone.alone.ok.0 ∙ (sym c.len.ensures ∙ c.if-len-count.true ∙ c.node_count-count.ensures.count)) in
     sym (ap (λ (o : Counted (List ℕ)). o.value) run)
 
 pub returns-then-len-count-clause-spent : goal.returns-then-len-count-clause-spent
 returns-then-len-count-clause-spent c =
     let ρ = meaning c.args.profile in
     let D = dataset_of c.args.dataset.now in
-    let order = in-hash-order ρ D c.all.result.now c.node_count-count.result c.in_ok-nodes.nodes.items (c.all.ensures ∙ c.in_ok-table.ensures.hashes) c.node_count-count.ensures.count c.in_ok-nodes.ensures.permutes c.in_ok-nodes.ensures.ascends in
+    let order = in-hash-order ρ D c.all.result.now c.node_count-count.result c.in_ok-nodes.nodes.items
+    (c.all.ensures ∙ c.in_ok-table.ensures.hashes) c.node_count-count.ensures.count c.in_ok-nodes.ensures.permutes c.in_ok-nodes.ensures.ascends in
     let here = subst (IsInHashOrder ρ D) (sym c.deref.ensures.value) order in
-    let run = run-of-alone ρ D c.deref.result.now c.in_ok-alone.alone.items here (c.in_ok-alone.ensures (hash_first_degree_quads ρ D) D.nodes here.ranked) (sym c.in_ok-alone.alone.ok.0 ∙ (sym c.len.ensures ∙ c.if-len-count.true ∙ c.node_count-count.ensures.count)) in
+    let run = run-of-alone ρ D c.deref.result.now c.in_ok-alone.alone.items here (c.in_ok-alone.ensures (hash_first_degree_quads ρ D) D.nodes here.ranked)
+    (sym c.in_ok-alone.alone.ok.0 ∙ (sym c.len.ensures ∙ c.if-len-count.true ∙ c.node_count-count.ensures.count)) in
     c.requires.spent ∙ sym (ap (λ (o : Counted (List ℕ)). o.trace.units) run)
 
 pub returns-then-len-count-clause-ties : goal.returns-then-len-count-clause-ties
 returns-then-len-count-clause-ties c =
     let ρ = meaning c.args.profile in
     let D = dataset_of c.args.dataset.now in
-    let order = in-hash-order ρ D c.all.result.now c.node_count-count.result c.in_ok-nodes.nodes.items (c.all.ensures ∙ c.in_ok-table.ensures.hashes) c.node_count-count.ensures.count c.in_ok-nodes.ensures.permutes c.in_ok-nodes.ensures.ascends in
+    let order = in-hash-order ρ D c.all.result.now c.node_count-count.result c.in_ok-nodes.nodes.items
+    (c.all.ensures ∙ c.in_ok-table.ensures.hashes) c.node_count-count.ensures.count c.in_ok-nodes.ensures.permutes c.in_ok-nodes.ensures.ascends in
     let here = subst (IsInHashOrder ρ D) (sym c.deref.ensures.value) order in
-    let run = run-of-alone ρ D c.deref.result.now c.in_ok-alone.alone.items here (c.in_ok-alone.ensures (hash_first_degree_quads ρ D) D.nodes here.ranked) (sym c.in_ok-alone.alone.ok.0 ∙ (sym c.len.ensures ∙ c.if-len-count.true ∙ c.node_count-count.ensures.count)) in
+    let run = run-of-alone ρ D c.deref.result.now c.in_ok-alone.alone.items here (c.in_ok-alone.ensures (hash_first_degree_quads ρ D) D.nodes here.ranked)
+    (sym c.in_ok-alone.alone.ok.0 ∙ (sym c.len.ensures ∙ c.if-len-count.true ∙ c.node_count-count.ensures.count)) in
     subst (λ ties. LogsAll D ties c.args.ties.now c.args.ties.now) (sym (ap (λ (o : Counted (List ℕ)). o.trace.ties) run)) (logs-none D c.args.ties.now)
 
 pub order_from-requires-clause-nodes : goal.order_from-requires-clause-nodes
@@ -41,12 +47,14 @@ order_from-requires-clause-nodes c =
     let ρ = meaning c.args.profile in
     let D = dataset_of c.args.dataset.now in
     subst (IsInHashOrder ρ D) (sym c.deref-2.ensures.value)
-    (in-hash-order ρ D c.all.result.now c.node_count-count.result c.in_ok-nodes.nodes.items (c.all.ensures ∙ c.in_ok-table.ensures.hashes) c.node_count-count.ensures.count c.in_ok-nodes.ensures.permutes c.in_ok-nodes.ensures.ascends)
+    (in-hash-order ρ D c.all.result.now c.node_count-count.result c.in_ok-nodes.nodes.items
+    (c.all.ensures ∙ c.in_ok-table.ensures.hashes) c.node_count-count.ensures.count c.in_ok-nodes.ensures.permutes c.in_ok-nodes.ensures.ascends)
 
 pub order_from-requires-clause-alone : goal.order_from-requires-clause-alone
 order_from-requires-clause-alone c =
     let ρ = meaning c.args.profile in
     let D = dataset_of c.args.dataset.now in
-    let order = in-hash-order ρ D c.all.result.now c.node_count-count.result c.in_ok-nodes.nodes.items (c.all.ensures ∙ c.in_ok-table.ensures.hashes) c.node_count-count.ensures.count c.in_ok-nodes.ensures.permutes c.in_ok-nodes.ensures.ascends in
+    let order = in-hash-order ρ D c.all.result.now c.node_count-count.result c.in_ok-nodes.nodes.items
+    (c.all.ensures ∙ c.in_ok-table.ensures.hashes) c.node_count-count.ensures.count c.in_ok-nodes.ensures.permutes c.in_ok-nodes.ensures.ascends in
     let here = subst (IsInHashOrder ρ D) (sym c.deref.ensures.value) order in
     c.deref-3.ensures.value ∙ alone-are ρ D c.deref.result.now c.in_ok-alone.alone.items here (c.in_ok-alone.ensures (hash_first_degree_quads ρ D) D.nodes here.ranked)

@@ -38,10 +38,14 @@ returns-in_err-issue_class-clause-over c = λ e.
     let class = slice_range c.args.nodes.now c.loop-start.start c.class_end-end.result in
     let canon = c.loop-start.canon.list in
     let some = some_behind c.args.nodes.now c.loop-start.start c.loop-start-test.true in
-    let over : c.loop-start.budget.limit < c.loop-start.budget.spent + (run_of_class (meaning c.args.profile) (dataset_of c.args.dataset.now) (class_hash (slice_range c.args.nodes.now c.loop-start.start c.class_end-end.result)) c.loop-start.canon.list).trace.units = search rules in
+    let over : c.loop-start.budget.limit < c.loop-start.budget.spent + (run_of_class (meaning c.args.profile) (dataset_of c.args.dataset.now)
+    (class_hash (slice_range c.args.nodes.now c.loop-start.start c.class_end-end.result)) c.loop-start.canon.list).trace.units = search rules in
     let behind = drop c.class_end-end.result c.args.nodes.now in
     let step = run-class ρ D rest class behind canon some c.class_end-end.ensures.class c.class_end-end.ensures.behind in
-    let all = way-over D (run_from ρ D c.args.nodes.now c.args.canon.now.list) (run_from ρ D rest canon) (run_of_class ρ D (class_hash class) canon).trace (run_from ρ D behind (run_of_class ρ D (class_hash class) canon).value) c.args.budget.now.spent c.loop-start.budget.spent c.loop-start.budget.limit c.args.ties.now c.loop-start.ties c.loop-start.invariant.way step over in
+    let all = way-over D (run_from ρ D c.args.nodes.now c.args.canon.now.list) (run_from ρ D rest canon) (run_of_class ρ D (class_hash class) canon).trace
+    (run_from ρ D behind
+    (run_of_class ρ D
+    (class_hash class) canon).value) c.args.budget.now.spent c.loop-start.budget.spent c.loop-start.budget.limit c.args.ties.now c.loop-start.ties c.loop-start.invariant.way step over in
     let kept = c.loop-start.invariant.limit in
     omega arith
 
@@ -65,5 +69,6 @@ loop-start-preserved c =
       prefix = c.issue_class.ensures.prefix ∙ kept.prefix;
       room = done.room;
       limit = c.issue_class.ensures.limit ∙ kept.limit;
-      way = subst (λ list. IsOnTheWay D (run_from ρ D c.args.nodes.now c.args.canon.now.list) (run_from ρ D behind list) c.args.budget.now.spent c.issue_class.new.budget.spent c.args.ties.now c.issue_class.new.ties) (sym done.list) next;
+      way = subst (λ list. IsOnTheWay D (run_from ρ D c.args.nodes.now c.args.canon.now.list)
+          (run_from ρ D behind list) c.args.budget.now.spent c.issue_class.new.budget.spent c.args.ties.now c.issue_class.new.ties) (sym done.list) next;
     }

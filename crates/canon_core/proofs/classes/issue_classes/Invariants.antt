@@ -16,7 +16,8 @@ invariant-loop-start l = record {
   prefix : l.canon.prefix ≡ Canonical;
   room : l.ties.total ≤ l.budget.spent;
   limit : l.budget.limit ≡ l.fn.budget.limit;
-  way : IsOnTheWay (dataset l.dataset) (run_from (meaning l.profile) (dataset l.dataset) l.nodes l.fn.canon.list) (run_from (meaning l.profile) (dataset l.dataset) (drop l.start l.nodes) l.canon.list) l.fn.budget.spent l.budget.spent l.fn.ties l.ties;
+  way : IsOnTheWay (dataset l.dataset) (run_from (meaning l.profile) (dataset l.dataset) l.nodes l.fn.canon.list)
+      (run_from (meaning l.profile) (dataset l.dataset) (drop l.start l.nodes) l.canon.list) l.fn.budget.spent l.budget.spent l.fn.ties l.ties;
 }
 
 abbrev pub decreases-loop-start : goal.decreases-loop-start

@@ -7,7 +7,8 @@ use Rattle.canon_core.proofs.starts.results_from.Goals as goal
 
 pub returns-in_err-found-clause-over : goal.returns-in_err-found-clause-over
 returns-in_err-found-clause-over c = λ e.
-    let over : c.loop-node.budget.limit < c.loop-node.budget.spent + (counted_start (meaning c.args.profile) (dataset_of c.args.dataset.now) c.args.canon.now.list (get_or c.args.nodes.now c.loop-node.node-index 0)).trace.units = search rules in
+    let over : c.loop-node.budget.limit < c.loop-node.budget.spent + (counted_start (meaning c.args.profile) (dataset_of c.args.dataset.now) c.args.canon.now.list
+    (get_or c.args.nodes.now c.loop-node.node-index 0)).trace.units = search rules in
     let kept = c.loop-node.invariant.limit in
     let all = over-start (meaning c.args.profile) (dataset_of c.args.dataset.now) c.args.canon.now.list c.args.nodes.now c.loop-node.node-index 0 c.loop-node-test.true c.args.budget.now.spent c.loop-node.budget.spent c.loop-node.budget.limit c.loop-node.invariant.spent over in
     omega arith

@@ -17,13 +17,14 @@ use Rattle.ndegree_hash.specs.OpenCalls.{Account, IsLeft, IsResumed, IsRunning}
 use Rattle.ndegree_hash.specs.KnownNodes.{AllKnown, IsTrail}
 use Rattle.ndegree_hash.specs.FrameSteps.{Leads}
 use Rattle.ndegree_hash.specs.OwedTies.{owed, owed_below, ties_at}
-use Rattle.ndegree_hash.proofs.TrailParts.{In-get_or}
+use Rattle.rdf_terms.proofs.MadeLists.{In-get_or}
 use Rattle.ndegree_hash.proofs.KnownFrames.{AllKnown-kept, AllKnown-pop, AllKnown-push, IsTrail-valid, owed_below-append}
 use Rattle.ndegree_hash.proofs.Running.{IsRunning-calls, IsRunning-stacked, begin-keeps, call-keeps, over-begin, over-call, return-ends, return-keeps, return-stacked, running-begins, step-front, step-keeps, step-may_log}
 use Rattle.ndegree_hash.proofs.Logging.{on_err}
 use Rattle.ndegree_hash.proofs.machine.run.Goals as goal
 
-steps : (ρ : Hashing) (d : Document) (c : List ℕ) (n : ℕ) (t : List ℕ) → IsValid (dataset_of d) → IsValidCall (dataset_of d) c n t → counted_call ρ (dataset_of d) c n t ≡ counted_step (counted_call ρ (dataset_of d) c) ρ (dataset_of d) c n t
+steps : (ρ : Hashing) (d : Document) (c : List ℕ) (n : ℕ) (t : List ℕ) → IsValid (dataset_of d) → IsValidCall (dataset_of d) c n t
+    → counted_call ρ (dataset_of d) c n t ≡ counted_step (counted_call ρ (dataset_of d) c) ρ (dataset_of d) c n t
 steps ρ d c n t valid v = counted_call_of_calls ρ (dataset_of d) c n t valid v
 
 called_is_valid : (d : Document) (c : List ℕ) (n : ℕ) (t : List ℕ) (m : ℕ) (i : List ℕ) → IsValidCall (dataset_of d) c m i → IsTrail (dataset_of d) c t → In n t → IsValidCall (dataset_of d) c n t
@@ -85,7 +86,8 @@ loop-at-preserved-in-Begin c =
     record {
       running = begin-keeps _ _ _ _ _ _ _ _ _ _ _ i.running _ _ _ _ c.in-Begin.is leads (c.if-not-spend-2.ensures.spent refl);
       known = c.in_ok-at-in-Begin.ensures.keeps.known D i.known i.trail;
-      below = AllKnown-kept D c.args.canon.now.list c.loop-at.trail.list c.begin.new.trail.list c.loop-at.below.items c.loop-at.frame.mark (IsRunning-stacked _ _ _ _ _ _ _ _ _ _ _ i.running) leads.below i.below;
+      below = AllKnown-kept D c.args.canon.now.list c.loop-at.trail.list c.begin.new.trail.list c.loop-at.below.items c.loop-at.frame.mark
+          (IsRunning-stacked _ _ _ _ _ _ _ _ _ _ _ i.running) leads.below i.below;
       trail = c.in_ok-at-in-Begin.ensures.keeps.trail D i.known i.trail;
       room = let a = i.room in let b = c.in_ok-at-in-Begin.ensures.room in let e = c.if-not-spend-2.ensures.spent refl in omega arith;
       within = let e = c.if-not-spend-2.ensures.spent refl in let h = c.if-not-spend-2.ensures.room refl in let l = c.spend-in-Begin.ensures.limit in omega arith;
@@ -96,7 +98,8 @@ loop-at-preserved-in-Begin c =
 
 pub returns-then-not-spend-3-clause-over : goal.returns-then-not-spend-3-clause-over
 returns-then-not-spend-3-clause-over c =
-    let more = over-call _ _ _ _ _ _ _ _ _ _ _ c.loop-at.invariant.running _ c.in-Call.is (steps (meaning c.args.profile) c.args.dataset.now c.args.canon.now.list c.in-Call.called c.loop-at.trail.list c.requires.valid
+    let more = over-call _ _ _ _ _ _ _ _ _ _ _ c.loop-at.invariant.running _ c.in-Call.is
+    (steps (meaning c.args.profile) c.args.dataset.now c.args.canon.now.list c.in-Call.called c.loop-at.trail.list c.requires.valid
     (called_is_valid c.args.dataset.now c.args.canon.now.list c.in-Call.called c.loop-at.trail.list c.args.node c.args.trail.now.list c.requires.call c.loop-at.invariant.trail
     (IsRunning-calls _ _ _ _ _ _ _ _ _ _ _ c.in-Call.called c.loop-at.invariant.running c.in-Call.is))) in
     let e = c.spend-in-Call.ensures.none_left.0 c.if-not-spend-3.true in
@@ -112,7 +115,8 @@ loop-at-preserved-in-Call c = record {
   running = call-keeps _ _ _ _ _ _ _ _ _ _ _ c.loop-at.invariant.running _ _ _ _ c.in-Call.is
       (steps (meaning c.args.profile) c.args.dataset.now c.args.canon.now.list c.in-Call.called c.loop-at.trail.list c.requires.valid
       (called_is_valid c.args.dataset.now c.args.canon.now.list c.in-Call.called c.loop-at.trail.list c.args.node c.args.trail.now.list c.requires.call c.loop-at.invariant.trail
-      (IsRunning-calls _ _ _ _ _ _ _ _ _ _ _ c.in-Call.called c.loop-at.invariant.running c.in-Call.is))) c.in_ok-enter-in-Call.ensures.below c.in_ok-enter-in-Call.ensures.frame (c.if-not-spend-3.ensures.spent refl);
+      (IsRunning-calls _ _ _ _ _ _ _ _ _ _ _ c.in-Call.called c.loop-at.invariant.running c.in-Call.is))) c.in_ok-enter-in-Call.ensures.below c.in_ok-enter-in-Call.ensures.frame
+      (c.if-not-spend-3.ensures.spent refl);
   known = c.in_ok-enter-in-Call.ensures.frame.known;
   below = subst (AllKnown (dataset_of c.args.dataset.now) c.args.canon.now.list c.loop-at.trail.list) (sym c.in_ok-enter-in-Call.ensures.below)
       (AllKnown-push (dataset_of c.args.dataset.now) c.args.canon.now.list c.loop-at.trail.list c.loop-at.below.items c.loop-at.frame c.loop-at.invariant.below c.loop-at.invariant.known);
@@ -120,7 +124,8 @@ loop-at-preserved-in-Call c = record {
   room =
       let a : c.loop-at.ties.total + owed_below c.loop-at.below.items + owed c.loop-at.frame (Call c.in-Call.called) + c.args.budget.now.spent < c.loop-at.budget.spent + c.args.ties.now.total =
       subst (λ at. c.loop-at.ties.total + owed_below c.loop-at.below.items + owed c.loop-at.frame at + c.args.budget.now.spent < c.loop-at.budget.spent + c.args.ties.now.total) c.in-Call.is c.loop-at.invariant.room in
-      let b : owed_below c.enter.new.below.items ≡ owed_below c.loop-at.below.items + suc (length c.loop-at.frame.others.items) = ap owed_below c.in_ok-enter-in-Call.ensures.below ∙ owed_below-append c.loop-at.below.items c.loop-at.frame in
+      let b : owed_below c.enter.new.below.items ≡ owed_below c.loop-at.below.items + suc (length c.loop-at.frame.others.items) = ap owed_below c.in_ok-enter-in-Call.ensures.below
+      ∙ owed_below-append c.loop-at.below.items c.loop-at.frame in
       let others : length c.enter.new.frame.others.items ≡ 0 = ap length c.in_ok-enter-in-Call.ensures.frame.others in
       let e = c.if-not-spend-3.ensures.spent refl in
       omega arith;
@@ -140,16 +145,19 @@ pub loop-at-preserved-in-Some : goal.loop-at-preserved-in-Some
 loop-at-preserved-in-Some c =
     let left : IsResumed c.args.canon.now.list c.loop-at.trail.list c.loop-at.below.items c.hash_of_text-hash.result c.leave.new.below.items c.leave.new.frame c.in-Some.to =
     subst (λ o. IsLeft c.args.canon.now.list c.loop-at.trail.list c.loop-at.below.items c.hash_of_text-hash.result c.leave.new.below.items c.leave.new.frame o) c.in-Some.is c.in_ok-left-in-Return.ensures in
-    let popped = AllKnown-pop (dataset_of c.args.dataset.now) c.args.canon.now.list c.loop-at.trail.list c.leave.new.below.items left.caller (subst (AllKnown (dataset_of c.args.dataset.now) c.args.canon.now.list c.loop-at.trail.list) left.below_is c.loop-at.invariant.below) in
+    let popped = AllKnown-pop (dataset_of c.args.dataset.now) c.args.canon.now.list c.loop-at.trail.list c.leave.new.below.items left.caller
+    (subst (AllKnown (dataset_of c.args.dataset.now) c.args.canon.now.list c.loop-at.trail.list) left.below_is c.loop-at.invariant.below) in
     record {
-      running = return-keeps _ _ _ _ _ _ _ _ _ _ _ c.loop-at.invariant.running _ _ _ _ c.in-Return.is (c.hash_of_text-hash.ensures ∙ ap (λ (text : Text). (meaning c.args.profile).hash text) c.as_slice.ensures.value) left;
+      running = return-keeps _ _ _ _ _ _ _ _ _ _ _ c.loop-at.invariant.running _ _ _ _ c.in-Return.is
+          (c.hash_of_text-hash.ensures ∙ ap (λ (text : Text). (meaning c.args.profile).hash text) c.as_slice.ensures.value) left;
       known = left.known (dataset_of c.args.dataset.now) popped.1;
       below = popped.0;
       trail = c.loop-at.invariant.trail;
       room =
           let a : c.loop-at.ties.total + owed_below c.loop-at.below.items + owed c.loop-at.frame Return + c.args.budget.now.spent < c.loop-at.budget.spent + c.args.ties.now.total =
           subst (λ at. c.loop-at.ties.total + owed_below c.loop-at.below.items + owed c.loop-at.frame at + c.args.budget.now.spent < c.loop-at.budget.spent + c.args.ties.now.total) c.in-Return.is c.loop-at.invariant.room in
-          let b : owed_below c.loop-at.below.items ≡ owed_below c.leave.new.below.items + suc (length left.caller.others.items) = ap owed_below left.below_is ∙ owed_below-append c.leave.new.below.items left.caller in
+          let b : owed_below c.loop-at.below.items ≡ owed_below c.leave.new.below.items + suc (length left.caller.others.items) = ap owed_below left.below_is
+          ∙ owed_below-append c.leave.new.below.items left.caller in
           let r : owed c.leave.new.frame c.in-Some.to ≤ suc (length left.caller.others.items) = left.room in
           omega arith;
       within = c.loop-at.invariant.within;
@@ -176,11 +184,14 @@ pub loop-at-preserved : goal.loop-at-preserved
 loop-at-preserved c =
     let D : Dataset = dataset_of c.args.dataset.now in
     let i = c.loop-at.invariant in
-    let leads : Leads c.args.canon.now.list c.loop-at.trail.list c.loop-at.frame c.loop-at.at (logged (ties_at c.args.canon.now.list c.loop-at.trail.list c.loop-at.frame c.loop-at.at)) c.step.new.trail.list c.step.new.frame c.in_ok-next-in-Group.next = c.in_ok-next-in-Group.ensures.leads in
+    let leads : Leads c.args.canon.now.list c.loop-at.trail.list c.loop-at.frame c.loop-at.at
+    (logged (ties_at c.args.canon.now.list c.loop-at.trail.list c.loop-at.frame c.loop-at.at)) c.step.new.trail.list c.step.new.frame c.in_ok-next-in-Group.next =
+    c.in_ok-next-in-Group.ensures.leads in
     record {
       running = step-keeps _ _ _ _ _ _ _ _ _ _ _ i.running _ _ _ _ leads c.in_ok-next-in-Group.ensures.logs;
       known = c.in_ok-next-in-Group.ensures.keeps.known D i.known i.trail;
-      below = AllKnown-kept D c.args.canon.now.list c.loop-at.trail.list c.step.new.trail.list c.loop-at.below.items c.loop-at.frame.mark (IsRunning-stacked _ _ _ _ _ _ _ _ _ _ _ i.running) leads.below i.below;
+      below = AllKnown-kept D c.args.canon.now.list c.loop-at.trail.list c.step.new.trail.list c.loop-at.below.items c.loop-at.frame.mark
+          (IsRunning-stacked _ _ _ _ _ _ _ _ _ _ _ i.running) leads.below i.below;
       trail = c.in_ok-next-in-Group.ensures.keeps.trail D i.known i.trail;
       room = let a = i.room in let b = c.in_ok-next-in-Group.ensures.room in omega arith;
       within = i.within;

@@ -10,7 +10,9 @@ use Rattle.ndegree_hash.proofs.machine.run.Given as goal
 
 abbrev pub invariant-loop-at : goal.invariant-loop-at
 invariant-loop-at l = record {
-  running : IsRunning (meaning l.profile) (dataset_of l.dataset) (counted_call (meaning l.profile) (dataset_of l.dataset) l.canon.list) l.canon.list (counted_call (meaning l.profile) (dataset_of l.dataset) l.canon.list l.node l.fn.trail.list) (record { spent = l.fn.budget.spent; log = l.fn.ties }) l.trail.list l.below.items l.frame l.at (record { spent = l.budget.spent; log = l.ties });
+  running : IsRunning (meaning l.profile) (dataset_of l.dataset) (counted_call (meaning l.profile) (dataset_of l.dataset) l.canon.list) l.canon.list
+      (counted_call (meaning l.profile) (dataset_of l.dataset) l.canon.list l.node l.fn.trail.list) (record { spent = l.fn.budget.spent; log = l.fn.ties }) l.trail.list l.below.items l.frame l.at
+      (record { spent = l.budget.spent; log = l.ties });
   known : IsKnown (dataset_of l.dataset) l.canon.list l.trail.list l.frame;
   below : AllKnown (dataset_of l.dataset) l.canon.list l.trail.list l.below.items;
   trail : IsTrail (dataset_of l.dataset) l.canon.list l.trail.list;

@@ -11,4 +11,6 @@ returns-in-Some c =
     let digits = c.as_bytes-number.ensures.value ∙ c.format.ensures.text ∙ sym (numeral-decimal c.in-Some.place (omega (arith, c.in-Some.ensures.number))) in
     let label = label_or (identifier_of c.args.canon.now.list c.args.issuer.now.list c.args.node) c.args.first.now in
     c.hash_in_turn.ensures
-    ∙ ap (meaning c.args.profile).hash (front-label c.front.result.0.now c.front.result.1.now c.front.result.2.now (position_letter c.args.position) (predicate_part c.args.position c.args.predicate.now) label _ c.front.ensures (ap (λ t. c.in-Some.prefix.now ++ t) digits ∙ sym (c.in-Some.ensures.label c.args.first.now)))
+    ∙ ap (meaning c.args.profile).hash
+    (front-label c.front.result.0.now c.front.result.1.now c.front.result.2.now (position_letter c.args.position) (predicate_part c.args.position c.args.predicate.now) label _ c.front.ensures
+    (ap (λ t. c.in-Some.prefix.now ++ t) digits ∙ sym (c.in-Some.ensures.label c.args.first.now)))

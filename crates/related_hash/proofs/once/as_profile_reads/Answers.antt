@@ -14,7 +14,10 @@ leave_once-requires c = Ascends-from_IsNonDecreasing _ (IsNonDecreasingBy-from_s
 
 pub returns-clause-permutes : goal.returns-clause-permutes
 returns-clause-permutes c =
-    subst (λ ns. Permutes (as_read (meaning c.args.profile) c.args.nodes.items) ns) (sym (c.new.ensures ∙ c.leave_once.ensures)) (as_read-perm (meaning c.args.profile) (Permutes-from_IsPermutation _ _ c.sort_unstable.ensures.permutation))
+    subst (λ ns. Permutes (as_read (meaning c.args.profile) c.args.nodes.items) ns) (sym (c.new.ensures ∙ c.leave_once.ensures))
+    (as_read-perm (meaning c.args.profile) (Permutes-from_IsPermutation _ _ c.sort_unstable.ensures.permutation))
 
 pub returns-clause-ascending : goal.returns-clause-ascending
-returns-clause-ascending c = subst Ascends (sym (c.new.ensures ∙ c.leave_once.ensures)) (Ascends-as_read (meaning c.args.profile) _ (Ascends-from_IsNonDecreasing _ (IsNonDecreasingBy-from_sort (λ x. x) _ c.sort_unstable.ensures.sorted)))
+returns-clause-ascending c =
+    subst Ascends (sym (c.new.ensures ∙ c.leave_once.ensures))
+    (Ascends-as_read (meaning c.args.profile) _ (Ascends-from_IsNonDecreasing _ (IsNonDecreasingBy-from_sort (λ x. x) _ c.sort_unstable.ensures.sorted)))
