@@ -1,5 +1,5 @@
 -- What adding one quad after the other makes of a draft.
-use Rattle.std.proofs.Common.{◌≡◌, ◌+◌, ◌≤◌, map, List, [], ◌∷◌, ◌++◌, length, inl, inr, refl, sym, ap, subst, arith, All, length-append}
+use Rattle.std.proofs.Common.{◌≡◌, ◌+◌, ◌≤◌, map, List, [], ◌∷◌, ◌++◌, length, refl, sym, ap, subst, arith, All}
 use Rattle.std.proofs.lemmas.List.Elements.{All-head, All-tail, All-map}
 use Rattle.std.proofs.lemmas.List.{length-map}
 use Rattle.rdf_terms.specs.Lists.{AreDistinct}

@@ -1,14 +1,13 @@
 -- The enumeration of arrangements is strictly ascending, so each stands once, and it is the only such list.
 use Rattle.std.proofs.Common.{Bool, Equal, Greater, Less, List, [], ap, arith, cond, eqb, false, flat_map, inl, inr, is_lt, leb, leb-false, leb-true, length, lt-ltb, map, nat_cmp, refl, subst, suc, sym, true, true≢false, zero, ℕ, ◌++◌, ◌<◌, ◌∙◌, ◌∷◌, ◌≡◌, ◌≤◌, ◌⊎◌}
 use Rattle.std.proofs.lemmas.Bool.{eqb-false}
-use Rattle.std.proofs.lemmas.Cmp.{nat_cmp_total, tied_itself}
 use Rattle.std.specs.Cmp.Lexicographic.{slice_cmp}
 use Rattle.std.specs.Ordering.{ordering_then}
 use Rattle.rdf_terms.proofs.Membership.{In-append, from_In-map}
-use Rattle.rdf_terms.proofs.TextOrder.{is_before-asym, is_before-irrefl}
+use Rattle.rdf_terms.proofs.TextOrder.{is_before-asym, is_before-front, is_before-irrefl}
 use Rattle.rdf_terms.specs.Lists.{AreDistinct, In, is_before}
 use Rattle.rdf_terms.specs.Arrangements.{AreStrictlyAscending, arrangements, arrangements_of_length, ascending_once, insert_once, without}
-use Rattle.rdf_terms.proofs.Arrangements.{In-arrangements, from_In-arrangements, from_In-insert_once}
+use Rattle.rdf_terms.proofs.Arrangements.{from_In-insert_once}
 use Rattle.rdf_terms.proofs.MadeLists.{from_In-flat_map}
 
 abbrev AreAscendingNodes : List ℕ → Type 0
@@ -41,7 +40,7 @@ lt_first : (x y : ℕ) (p q : List ℕ) → x < y → is_before (x ∷ p) (y ∷
 lt_first x y p q h = ap (λ o. is_lt (ordering_then o (slice_cmp nat_cmp p q))) (cmp_less x y h)
 
 lt_rest : (x : ℕ) (p q : List ℕ) → is_before p q ≡ true → is_before (x ∷ p) (x ∷ q) ≡ true
-lt_rest x p q h = ap (λ o. is_lt (ordering_then o (slice_cmp nat_cmp p q))) (tied_itself nat_cmp_total x) ∙ h
+lt_rest x p q h = is_before-front (x ∷ []) p q ∙ h
 
 ascending_map : (x : ℕ) (ps : List (List ℕ)) → AreStrictlyAscending ps → AreStrictlyAscending (map (λ p. x ∷ p) ps)
 ascending_map x [] r = tt

@@ -2,7 +2,6 @@
 use Rattle.std.proofs.Common.{◌≡◌, ℕ, ◌<◌, Bool, true, false, ◌||◌, List, [], ◌∷◌, Option, Some, None, IfSome, length, map, inl, inr, refl, sym, ap, subst, ◌∙◌, true≢false, arith, All, get_or, eqb}
 use Rattle.std.proofs.lemmas.Bool.{eqb-true}
 use Rattle.std.proofs.lemmas.List.{length-map, get_or-map, same_lists, get_or_default}
-use Rattle.std.proofs.lemmas.List.Elements.{All-nil, All-cons, All-head, All-tail}
 use Rattle.std.proofs.lemmas.Option.{slice_get-get_or}
 use Rattle.rdf_terms.specs.Lists.{In, AreDistinct, numbers_below}
 use Rattle.rdf_terms.specs.Terms.{Statement, IsValidStatement, IsValidTerm, IsIri, IsIriOrBlank}
@@ -83,16 +82,12 @@ module _ (σ : ℕ → ℕ) (ts : List Term) where
   pub statements_relabelled : (qs : List Quad) → All (IsInRange ts) qs → map (statement (map (relabel_term σ) ts)) qs ≡ map (relabel_statement σ) (map (statement ts) qs)
   statements_relabelled qs r = map-agree _ _ qs (λ q i. statement_relabelled q (each-from_All (IsInRange ts) qs q r i)) ∙ sym (map-map (relabel_statement σ) (statement ts) qs)
 
-graph_longer : (m n : ℕ) → m ≡ n → (g : Option ℕ) → IfSome g (λ k. k < m) → IfSome g (λ k. k < n)
-graph_longer m n e None l = tt
-graph_longer m n e (Some k) l = subst (λ x. k < x) e l
-
 in_range_relabelled : (σ : ℕ → ℕ) (ts : List Term) (q : Quad) → IsInRange ts q → IsInRange (map (relabel_term σ) ts) q
 in_range_relabelled σ ts q r = let e = length-map ts (relabel_term σ) in record {
   s = omega (arith, e, r.s);
   p = omega (arith, e, r.p);
   o = omega (arith, e, r.o);
-  g = graph_longer (length ts) (length (map (relabel_term σ) ts)) (sym e) q.g r.g;
+  g = subst (λ n. IfSome q.g (λ k. k < n)) (sym e) r.g;
 }
 
 -- ---- relabelling where it matters: at the nodes that a statement mentions
@@ -146,30 +141,6 @@ module _ (nodes : ℕ) (st : Statement) (v : IsValidStatement nodes st) where
       predicate = iri_valid st.predicate v.predicate_kind v.predicate;
       object = term_valid st.object mentioned_object v.object;
       graph_name = graph_valid st.graph_name mentioned_graph_name v.graph_name;
-    }
-
-  -- a map that leaves the nodes that the statement mentions leaves the statement
-  module _ (σ : ℕ → ℕ) (same : (n : ℕ) → mentions n st ≡ true → σ n ≡ n) where
-    term_same : (t : Term) → ((n : ℕ) → Blank n ≡ t → mentions n st ≡ true) → relabel_term σ t ≡ t
-    term_same (Iri t) m = refl
-    term_same (Blank n) m = ap Blank (same n (m n refl))
-    term_same (Literal l) m = refl
-
-    iri_same : (t : Term) → IsIri t → relabel_term σ t ≡ t
-    iri_same (Iri t) i = refl
-    iri_same (Blank n) i = absurd i
-    iri_same (Literal l) i = refl
-
-    graph_same : (g : Option Term) → ((n : ℕ) → Some (Blank n) ≡ g → mentions n st ≡ true) → relabel_graph_name σ g ≡ g
-    graph_same None m = refl
-    graph_same (Some t) m = ap Some (term_same t (λ n e. m n (ap Some e)))
-
-    pub relabel_statement-same : relabel_statement σ st ≡ st
-    relabel_statement-same = λ i. record {
-      subject = term_same st.subject mentioned_subject i;
-      predicate = iri_same st.predicate v.predicate_kind i;
-      object = term_same st.object mentioned_object i;
-      graph_name = graph_same st.graph_name mentioned_graph_name i;
     }
 
 -- a map that keeps the nodes of two statements apart keeps the statements apart

@@ -77,10 +77,6 @@ Keeps-more all kept left marks k l rest new b split low is grown h = record {
 
 -- ---- the labels that are kept are those of the marked nodes
 
-drop_nil : (k : ℕ) → drop k (let e : List Bool = [] in e) ≡ []
-drop_nil zero = refl
-drop_nil (suc k) = refl
-
 shifted : (b : Bool) (bs : List Bool) (x : Label) (xs : List Label) (n : ℕ)
     → map (label_at (x ∷ xs)) (filter (mark_in (b ∷ bs)) (numbers_below (suc n)))
     ≡ (if b then x ∷ map (label_at xs) (filter (mark_in bs) (numbers_below n)) else map (label_at xs) (filter (mark_in bs) (numbers_below n)))

@@ -1,5 +1,5 @@
 -- Fewer than eight bytes, written into a word of zeros.
-use Rattle.std.proofs.Common.{arith, ◌≡◌, ◌<◌, ℕ, [], ◌∷◌, ◌++◌, drop, length, refl, slice_set}
+use Rattle.std.proofs.Common.{arith, ◌≡◌, ◌<◌, [], ◌∷◌, ◌++◌, drop, length, refl, slice_set}
 use Rattle.rdf_terms.specs.Lists.{Text}
 use Rattle.rdf_terms.specs.FedText.{last_word}
 

@@ -1,5 +1,6 @@
 pub mod Membership
 pub mod MadeLists
+pub mod Moving
 pub mod Added
 pub mod Equal
 pub mod SameTerm
@@ -10,7 +11,6 @@ pub mod AddingAll
 pub mod KnownEnds
 mod LastWords
 pub mod Naming
-pub mod Moving
 pub mod Permutations
 pub mod TextOrder
 pub mod Arrangements
@@ -24,3 +24,4 @@ pub mod Marking
 pub mod Keeping
 pub mod Leaving
 mod FirstPlaces
+pub mod Common

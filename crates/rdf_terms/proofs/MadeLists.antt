@@ -1,5 +1,5 @@
 -- Lists that are made of others: mapped, filtered, joined, parted. Their members, and what holds of each.
-use Rattle.std.proofs.Common.{◌≡◌, ℕ, zero, suc, ◌+◌, ◌-◌, ◌<◌, ◌⊎◌, Bool, true, false, List, [], ◌∷◌, ◌++◌, map, filter, flat_map, length, take, drop, get_or, All, inl, inr, refl, sym, ap, subst, ◌∙◌, true≢false, arith, if◌then◌else◌, take_all, length-drop, Some}
+use Rattle.std.proofs.Common.{◌≡◌, ℕ, ◌-◌, ◌<◌, ◌⊎◌, Bool, true, false, List, [], ◌∷◌, ◌++◌, map, filter, flat_map, length, take, drop, get_or, All, inl, inr, refl, sym, ap, subst, ◌∙◌, true≢false, arith, if◌then◌else◌, take_all, length-drop, Some}
 use Rattle.std.proofs.lemmas.List.Elements.{All-nil, All-cons, All-head, All-tail}
 use Rattle.std.proofs.lemmas.Option.{slice_get-get_or, slice_get_within, get_or_from_slice_get}
 use Rattle.rdf_terms.specs.Lists.{In, AreDistinct}

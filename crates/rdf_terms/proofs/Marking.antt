@@ -1,6 +1,6 @@
 -- A table of marks: which blank nodes stand among the first terms of a table.
-use Rattle.std.proofs.Common.{◌≡◌, ◌↔◌, ℕ, ◌+◌, ◌<◌, ◌≤◌, ◌⊎◌, Bool, true, false, List, [], ◌∷◌, ◌++◌, Some, slice_get, slice_set, length, take, inl, inr, refl, sym, ap, subst, ◌∙◌, true≢false, arith, get_or-set_same, get_or-set_other, length-set}
-use Rattle.std.proofs.lemmas.List.{take_all, take_more}
+use Rattle.std.proofs.Common.{◌≡◌, ◌↔◌, ℕ, ◌+◌, ◌<◌, ◌⊎◌, Bool, true, false, List, [], ◌∷◌, ◌++◌, Some, slice_get, slice_set, length, take, inl, inr, refl, sym, ap, subst, ◌∙◌, true≢false, arith, get_or-set_same, get_or-set_other, length-set}
+use Rattle.std.proofs.lemmas.List.{take_more}
 use Rattle.std.proofs.lemmas.Option.{get_or_from_slice_get, slice_get_within}
 use Rattle.rdf_terms.specs.Lists.{In}
 use Rattle.rdf_terms.specs.Document.{mark_in, with_mark}
@@ -13,9 +13,6 @@ pub record Marks (marks : List Bool) (nodes : ℕ) (terms : List Term) : Type 0 
   pub len : length marks ≡ nodes
   pub marked : (n : ℕ) → mark_in marks n ≡ true → In (Blank n) terms
   pub all_marked : (n : ℕ) → In (Blank n) terms → mark_in marks n ≡ true
-
-pub Marks-nil : (marks : List Bool) (nodes : ℕ) → length marks ≡ nodes → ((n : ℕ) → mark_in marks n ≡ false) → Marks marks nodes []
-Marks-nil marks nodes e f = record { len = e; marked = λ n h. true≢false (sym h ∙ f n); all_marked = λ n h. absurd h }
 
 module _ (marks : List Bool) (nodes : ℕ) (terms : List Term) (k : ℕ) (t : Term) (at : slice_get terms k ≡ Some t) (h : Marks marks nodes (take k terms)) where
   more : take (k + 1) terms ≡ take k terms ++ t ∷ []
@@ -70,9 +67,6 @@ pub Marks-mark : (marks : List Bool) (nodes : ℕ) (terms : List Term) (k : ℕ)
 Marks-mark marks nodes terms k (Iri i) new at low e h = rw e (Marks-other marks nodes terms k (Iri i) at h (λ n x. cc))
 Marks-mark marks nodes terms k (Blank b) new at low e h = Marks-blank marks nodes terms k (Blank b) at h b new refl (low b refl) e
 Marks-mark marks nodes terms k (Literal l) new at low e h = rw e (Marks-other marks nodes terms k (Literal l) at h (λ n x. cc))
-
-pub Marks-all : (marks : List Bool) (nodes : ℕ) (terms : List Term) (k : ℕ) → length terms ≤ k → Marks marks nodes (take k terms) → (n : ℕ) → (mark_in marks n ≡ true) ↔ In (Blank n) terms
-Marks-all marks nodes terms k l h n = let e = take_all k terms l in (λ m. subst (In (Blank n)) e (h.marked n m), λ i. h.all_marked n (subst (In (Blank n)) (sym e) i))
 
 -- with no mark, none is set, and no node is there
 pub mark_in-nil : (terms : List Term) → ((n : ℕ) → ¬ In (Blank n) terms) → (n : ℕ) → (mark_in [] n ≡ true) ↔ In (Blank n) terms

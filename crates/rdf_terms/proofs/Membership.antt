@@ -1,5 +1,5 @@
 -- Membership and distinct lists, and the tests by which a table of distinct keys finds one.
-use Rattle.std.proofs.Common.{◌≡◌, ℕ, zero, suc, ◌⊎◌, Bool, true, false, ◌||◌, List, [], ◌∷◌, ◌++◌, Some, slice_get, take, map, inl, inr, refl, sym, ap, ◌∙◌, true≢false, position, if◌then◌else◌, get_or, length, length-append, arith, ◌+◌, ◌≤◌}
+use Rattle.std.proofs.Common.{◌≡◌, ℕ, zero, suc, ◌⊎◌, Bool, true, false, ◌||◌, List, [], ◌∷◌, ◌++◌, Some, slice_get, take, map, inl, inr, refl, sym, ap, ◌∙◌, true≢false, position, if◌then◌else◌, get_or, length, length-append, arith, ◌+◌, ◌≤◌, ◌<◌, eqb, eqb-true, eq-eqb, ne_eqb}
 use Rattle.std.specs.List.{list_any, IsDistinct, AllByRecursion}
 use Rattle.std.proofs.lemmas.List.Quantifiers.{position-Some}
 use Rattle.std.proofs.lemmas.Option.{slice_get-get_or}
@@ -7,6 +7,7 @@ use Rattle.rdf_terms.specs.Lists.{In, AreDistinct}
 use Rattle.rdf_terms.specs.Document.{Adds, Extends}
 use Rattle.std.proofs.lemmas.List.{append-nil}
 use Rattle.std.proofs.lemmas.Bool.{or_right}
+use Rattle.std.proofs.lemmas.Map.Steps.{length-le_from_distinct_below}
 
 module _ {A : Type 0} where
   pub In-at : (xs : List A) (n : ℕ) (x : A) → slice_get xs n ≡ Some x → In x xs
@@ -70,9 +71,6 @@ module _ {A : Type 0} where
   length-adds old x new (inl p) = omega (arith, ap length p.0)
   length-adds old x new (inr p) = omega (arith, ap length p.0, length-append old (x ∷ []))
 
-  pub In-extends : (old new : List A) (x : A) → Extends old new → In x old → In x new
-  In-extends old new x e h = rw e.1 (In-append_left old e.0 x h)
-
 pub In-map : {A B : Type 0} (f : A → B) (xs : List A) (x : A) → In x xs → In (f x) (map f xs)
 In-map f [] x h = absurd h
 In-map f (y ∷ ys) x (inl e) = inl (ap f e)
@@ -126,3 +124,31 @@ module _ {K : Type 0} (eq : K → K → Bool) (tells : TellsEqual eq) where
   place_is k ks i p =
       let q = position-Some (eq k) ks i k p in
       slice_get-get_or ks i k q.0 ∙ ap Some (sym (tells.same k (get_or ks i k) q.1))
+
+-- ---- numbers
+
+numbers_tell : TellsEqual eqb
+numbers_tell = record { same = eqb-true; itself = λ n. eq-eqb n n refl }
+
+pub decide_in : (n : ℕ) (ns : List ℕ) → In n ns ⊎ (¬ (In n ns))
+decide_in n ns = by (list_any (eqb n) ns) refl
+  where
+    by : (b : Bool) → list_any (eqb n) ns ≡ b → In n ns ⊎ (¬ (In n ns))
+    by true e = inl (present eqb numbers_tell n ns e)
+    by false e = inr (absent eqb numbers_tell n ns e)
+
+pub AreDistinct-from_IsDistinct : (ns : List ℕ) → IsDistinct eqb ns → AreDistinct ns
+AreDistinct-from_IsDistinct = AreDistinct-from_test eqb numbers_tell
+
+to_IsDistinct : (ns : List ℕ) → AreDistinct ns → IsDistinct eqb ns
+unfolding IsDistinct
+to_IsDistinct [] d = tt
+to_IsDistinct (n ∷ ns) d = (apart ns d.0, to_IsDistinct ns d.1)
+  where
+    apart : (ms : List ℕ) → ¬ (In n ms) → AllByRecursion (λ m. eqb n m ≡ false) ms
+    apart [] h = tt
+    apart (m ∷ ms) h = (ne_eqb n m (λ e. h (inl e)), apart ms (λ i. h (inr i)))
+
+-- distinct numbers below a bound are at most so many
+pub length-distinct_below : (ns : List ℕ) (bound : ℕ) → AreDistinct ns → ((n : ℕ) → In n ns → n < bound) → length ns ≤ bound
+length-distinct_below ns bound d below = length-le_from_distinct_below ns bound (to_IsDistinct ns d) (λ n h. below n (present eqb numbers_tell n ns h))

@@ -1,5 +1,5 @@
 -- Numerals: written digit by digit, with a value, so that different numbers have different numerals.
-use Rattle.std.proofs.Common.{◌≡◌, ℕ, zero, suc, ◌+◌, ◌/◌, ◌%◌, ◌^◌, ◌<◌, ◌≤◌, ◌≢◌, ◌⊎◌, List, [], ◌∷◌, ◌++◌, length, reverse, get_or, inl, inr, refl, sym, ap, ◌∙◌, subst, arith, length-append}
+use Rattle.std.proofs.Common.{◌≡◌, ℕ, zero, suc, ◌+◌, ◌/◌, ◌%◌, ◌^◌, ◌<◌, ◌≤◌, ◌≢◌, ◌⊎◌, List, [], ◌∷◌, ◌++◌, length, reverse, inl, inr, refl, sym, ap, ◌∙◌, subst, arith, length-append}
 use mathlib.Core.List.{reverse-cons}
 use Rattle.std.specs.Str.{IsAscii}
 use Rattle.std.specs.Str.Parse.{digits_value}
@@ -10,7 +10,6 @@ use Rattle.std.proofs.lemmas.Fmt.{decimal_digit, decimal_step_wide}
 use Rattle.std.proofs.lemmas.Int.Digits.{digits_value_push}
 use Rattle.std.proofs.lemmas.List.{append_cancel_left}
 use Rattle.std.proofs.lemmas.Str.{digit_value_digit}
-use Rattle.std.proofs.Math.ListN.{get_or-append}
 use Rattle.rdf_terms.specs.Lists.{Text, In}
 use Rattle.rdf_terms.specs.Numeral.{next_digits, digits_from_last, numeral}
 use Rattle.rdf_terms.specs.CanonicalForm.{identifier, prefix_text}
@@ -126,9 +125,6 @@ IsAscii-from_digits [] h i = omega arith
 IsAscii-from_digits (b ∷ bs) h zero = omega (arith, (h b (inl refl)).1)
 IsAscii-from_digits (b ∷ bs) h (suc i) = IsAscii-from_digits bs (λ c there. h c (inr there)) i
 
-pub IsAscii-numeral : (n : ℕ) → IsAscii (numeral n)
-IsAscii-numeral n = IsAscii-from_digits (numeral n) (In-numeral n)
-
 -- ---- length, and the first digit
 
 pub numeral-nonempty : (n : ℕ) → 0 < length (numeral n)
@@ -141,16 +137,6 @@ length-numeral-le k n some fits = numeral-by_steps (λ m ds. (j : ℕ) → 0 < j
     more m ds l h zero a b = absurd (omega arith)
     more m ds l h (suc zero) a b = absurd (omega arith)
     more m ds l h (suc (suc j)) a b = omega (arith, length-append ds ((48 + m % 10) ∷ []), h (suc j) (omega arith) (omega arith))
-
-pub numeral-zero : numeral 0 ≡ 48 ∷ []
-numeral-zero = numeral-digit 0 (omega arith)
-
--- no '0' stands first but in the numeral of 0
-pub first-numeral : (n : ℕ) → 0 < n → 48 < get_or (numeral n) 0 0
-first-numeral n some = (numeral-by_steps (λ m ds. (0 < length ds) × (0 < m → 48 < get_or ds 0 0)) (λ m h. (omega arith, λ a. omega arith)) more n).1 some
-  where
-    more : (m : ℕ) (ds : Text) → 10 ≤ m → (0 < length ds) × (0 < m / 10 → 48 < get_or ds 0 0) → (0 < length (ds ++ (48 + m % 10) ∷ [])) × (0 < m → 48 < get_or (ds ++ (48 + m % 10) ∷ []) 0 0)
-    more m ds l h = (omega (arith, length-append ds ((48 + m % 10) ∷ [])), λ a. omega (arith, get_or-append ds ((48 + m % 10) ∷ []) 0 0 h.0, h.1 (omega arith)))
 
 -- ---- a numeral has its number as value
 

@@ -1,5 +1,5 @@
 -- How many of the first numbers pass a test.
-use Rattle.std.proofs.Common.{◌≡◌, ℕ, zero, suc, ◌+◌, ◌<◌, ◌≤◌, ◌⊎◌, Bool, true, false, List, [], ◌∷◌, ◌++◌, length, map, filter, inl, inr, refl, sym, ap, ◌∙◌, arith, length-append, if◌then◌else◌, get_or}
+use Rattle.std.proofs.Common.{◌≡◌, ℕ, zero, suc, ◌+◌, ◌<◌, ◌≤◌, ◌⊎◌, Bool, true, false, [], ◌∷◌, ◌++◌, length, map, filter, inl, inr, refl, sym, ap, ◌∙◌, arith, length-append, if◌then◌else◌, get_or}
 use Rattle.std.proofs.lemmas.List.{map-append, get_or_append_left, get_or_at, append-nil}
 use Rattle.rdf_terms.specs.Lists.{In, AreDistinct, numbers_below}
 use Rattle.rdf_terms.proofs.Membership.{In-append, AreDistinct-push, In-append_left, In-append_right}
@@ -55,10 +55,6 @@ map-numbers_below f g (suc n) e =
 
 abbrev pub rank : (ℕ → Bool) → ℕ → ℕ
 rank p n = length (filter p (numbers_below n))
-
-one_or_none : Bool → ℕ
-one_or_none true = 1
-one_or_none false = 0
 
 pub filter-numbers_below_suc : (p : ℕ → Bool) (n : ℕ) (b : Bool) → p n ≡ b → filter p (numbers_below (suc n)) ≡ filter p (numbers_below n) ++ (if b then n ∷ [] else [])
 filter-numbers_below_suc p n b e = filter-append p (numbers_below n) (n ∷ []) ∙ ap (λ c. filter p (numbers_below n) ++ (if c then n ∷ [] else [])) e

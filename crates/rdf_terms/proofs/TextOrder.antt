@@ -1,8 +1,8 @@
 -- The order of texts by their bytes is total.
-use Rattle.std.proofs.Common.{◌≡◌, Bool, true, false, not, ◌⊎◌, inl, inr, refl, sym, ap, ◌∙◌, Ordering, Less, Equal, Greater, nat_cmp, is_lt, is_gt}
-use Rattle.std.specs.Ordering.{ordering_reverse, is_eq}
+use Rattle.std.proofs.Common.{◌≡◌, Bool, true, false, not, ◌⊎◌, inl, inr, refl, sym, ap, ◌∙◌, Ordering, Less, Equal, Greater, nat_cmp, is_lt, is_gt, [], ◌∷◌, ◌++◌}
+use Rattle.std.specs.Ordering.{ordering_reverse, ordering_then, is_eq}
 use Rattle.std.specs.Cmp.Lexicographic.{slice_cmp, nat_list_cmp_total, texts_ties, bytes_decides}
-use Rattle.std.proofs.lemmas.Cmp.{upto, tied_itself}
+use Rattle.std.proofs.lemmas.Cmp.{upto, tied_itself, nat_cmp_total}
 use Rattle.std.proofs.lemmas.Bool.{not-true, not_from_false}
 use Rattle.rdf_terms.specs.Lists.{Text, is_before, is_at_most}
 
@@ -103,3 +103,8 @@ same_from_neither_before a b h g = is_at_most-antisymm a b (is_at_most-from_not_
 -- c is not before b, and b not before a: c is not before a
 pub not_before-trans : (a b c : Text) → is_before b a ≡ false → is_before c b ≡ false → is_before c a ≡ false
 not_before-trans a b c h g = not_before-from_is_at_most a c (is_at_most-trans a b c (is_at_most-from_not_before a b h) (is_at_most-from_not_before b c g))
+
+-- what stands behind one front decides
+pub is_before-front : (front a b : Text) → is_before (front ++ a) (front ++ b) ≡ is_before a b
+is_before-front [] a b = refl
+is_before-front (x ∷ front) a b = ap (λ o. is_lt (ordering_then o (slice_cmp nat_cmp (front ++ a) (front ++ b)))) (tied_itself nat_cmp_total x) ∙ is_before-front front a b

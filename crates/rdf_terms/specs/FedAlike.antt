@@ -25,7 +25,8 @@ entries_fed_alike a b h = ap u64 (eqb-true a.hash b.hash (and_parts _ _ h).0)
 pub references_fed_alike : (a b : HashedTermRef) → IsTrue (eq-hashed_ref.it a b) → u64 a.hash ≡ u64 b.hash
 references_fed_alike a b h = ap u64 (eqb-true a.hash b.hash (and_parts _ _ h).0)
 
-pub fed_as_entry : (q : HashedTermRef) (k : HashedTerm) → IsTrue (eq-hashed.it (hashed_of q) k) → u64 q.hash ≡ u64 k.hash
+pub fed_as_entry : (q : HashedTermRef) (k : HashedTerm) → IsTrue (eq-hashed.it (hashed_of q) k)
+    → u64 q.hash ≡ u64 k.hash
 fed_as_entry q k h = entries_fed_alike (hashed_of q) k h
 
 same_graph : (a b : Option ℕ) → option_eq eqb a b ≡ true → a ≡ b

@@ -16,3 +16,4 @@ pub mod Ends
 pub mod QuadHash
 pub mod FedAlike
 pub mod FirstPlaces
+pub mod Vocabulary

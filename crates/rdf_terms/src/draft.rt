@@ -180,7 +180,8 @@ impl Draft {
     }
 
     /// The document that was read. A node that stands in no quad is dropped, and the others are
-    /// numbered anew, in the order in which `node` gave their numbers.
+    /// numbered anew, in the order in which `node` gave their numbers. That is for TriG alone, as in
+    /// `[ ]`: in N-Quads each node stands in a quad.
     pub fn finish(self) -> Result<Parsed, NoMemory>
         ensures finishes { IfOk result (Finishes self) }
         ensures whole { ((n : ℕ) → n < length self.labels → IsUsed (statements self) n) → IfOk result (λ parsed. parsed ≡ self) }
