@@ -1,5 +1,5 @@
 -- How many bytes at the front pass a test, counted by blocks.
-use Rattle.std.proofs.Common.{◌≡◌, ℕ, zero, suc, ◌+◌, ◌%◌, ◌^◌, ◌<◌, ◌≤◌, Bool, true, false, not, List, [], ◌∷◌, map, length, take, drop, replicate, get_or, Fits, w8, refl, sym, ap, ap₂, ◌∙◌, arith}
+use Rattle.std.proofs.Common.{◌≡◌, ℕ, zero, suc, ◌+◌, ◌%◌, ◌^◌, ◌<◌, ◌≤◌, Bool, true, false, not, List, [], ◌∷◌, ◌++◌, All, map, length, take, drop, replicate, get_or, Fits, w8, refl, sym, ap, ap₂, ◌∙◌, arith}
 use Rattle.std.proofs.lemmas.Bool.{agree_below, agree_below_at}
 use Rattle.std.proofs.lemmas.Simd.{map-map, mask_l-mod, length-chunk, get_or-chunk, first_set_mask_l, zip2_splat}
 use Rattle.std.proofs.lemmas.List.{length-map}
@@ -38,6 +38,12 @@ first_set-prefix_len q bytes at n room few fits f lanes agree =
     ap (λ x. not (stops x)) (get_or-chunk at n bytes k 0 (omega (arith, long, below)))
     ∙ agree_below_at (λ x. not (stops x)) q 256 (get_or bytes (at + k) 0) agree (fits (at + k)).fits
     ∙ sym (ap q (get_or-chunk at n bytes k 0 (omega (arith, long, below)))))
+
+-- all of the first list pass
+pub prefix_len-append : (p : ℕ → Bool) (xs ys : List ℕ) → All (λ c. p c ≡ true) xs → prefix_len p (xs ++ ys) ≡ length xs + prefix_len p ys
+prefix_len-append p [] ys all = omega arith
+prefix_len-append p (x ∷ xs) ys all =
+    rw (all 0 0 (omega arith)) (let rest = prefix_len-append p xs ys (λ k d l. all (suc k) d (omega arith)) in omega arith)
 
 -- the first n all pass
 pub prefix_len-take_all : (p : ℕ → Bool) (n : ℕ) (xs : List ℕ) → n ≤ length xs → prefix_len p (take n xs) ≡ n → prefix_len p xs ≡ n + prefix_len p (drop n xs)

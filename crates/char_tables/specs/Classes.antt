@@ -1,4 +1,5 @@
--- The classes of characters in the grammars of RDF 1.1 N-Quads (section 4) and RDF 1.1 TriG (section 4.5), each under the name that it has there.
+-- The classes of characters in the grammars of RDF 1.1 N-Quads (section 4) and RDF 1.1 TriG (section 4.5), each under
+-- the name that it has there.
 use Rattle.std.specs.Prelude.{ℕ, Bool, not, ◌&&◌, nat_lt, [], ◌∷◌, ◌++◌}
 use Rattle.char_tables.specs.Rows.{Rows, is_in}
 
@@ -28,7 +29,8 @@ is_ascii_pn c = nat_lt c 128 && is_in pn_chars c
 -- what IRIREF excludes: U+0000 to U+0020, `"`, `<`, `>`, `\`, `^`, the grave accent, `{`, `|` and `}`
 abbrev pub excluded_from_iriref : Rows
 excluded_from_iriref =
-    (0x00, 0x20) ∷ (0x22, 0x22) ∷ (0x3C, 0x3C) ∷ (0x3E, 0x3E) ∷ (0x5C, 0x5C) ∷ (0x5E, 0x5E) ∷ (0x60, 0x60) ∷ (0x7B, 0x7D) ∷ []
+    (0x00, 0x20) ∷ (0x22, 0x22) ∷ (0x3C, 0x3C) ∷ (0x3E, 0x3E) ∷ (0x5C, 0x5C) ∷ (0x5E, 0x5E) ∷ (0x60, 0x60) ∷
+    (0x7B, 0x7D) ∷ []
 
 -- whether the character may stand unescaped in an IRIREF
 abbrev pub may_stand_in_iriref : ℕ → Bool

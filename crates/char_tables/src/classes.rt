@@ -108,8 +108,8 @@ pub fn is_iri_char(c: char) -> bool
     !c.is_ascii() || is_iri_byte(c as u8)
 }
 
-/// Whether the character with this code point may stand unescaped in an IRIREF. All from 0x80 on
-/// may, so a text in UTF-8 can be tested byte by byte.
+// Whether the character with this code point may stand unescaped in an IRIREF. All from 0x80 on
+// may, so a text in UTF-8 can be tested byte by byte.
 #[inline]
 pub(crate) fn is_iri_byte(byte: u8) -> bool
     ensures { result ≡ not (is_in excluded_from_iriref byte) }

@@ -25,7 +25,8 @@ module _ (P : ℕ → Type 0) (colon : P 58) (slash : P 47) (question_mark : P 6
 
   All-after : (c : ℕ) (text : Text) → All P text → IfSome (after c text) (All P)
   All-after c text all =
-      cond_both (list_any (λ b. nat_eq b c) text) (Some (after_first (λ b. nat_eq b c) text)) None (λ (o : Option Text). IfSome o (All P)) (λ _. All-drop P (position_or_len (λ b. nat_eq b c) text + 1) text all) (λ _. tt)
+      cond_both (list_any (λ b. nat_eq b c) text) (Some (after_first (λ b. nat_eq b c) text)) None (λ (o : Option Text). IfSome o (All P))
+      (λ _. All-drop P (position_or_len (λ b. nat_eq b c) text + 1) text all) (λ _. tt)
 
   All-without_scheme : (text : Text) → All P text → All P (without_scheme text)
   All-without_scheme text all =
@@ -38,8 +39,13 @@ module _ (P : ℕ → Type 0) (colon : P 58) (slash : P 47) (question_mark : P 6
   unfolding components
   All-components text all = record {
     scheme = cond_both (begins_with_scheme text) (Some (before 58 text)) None (λ (o : Option Text). IfSome o (All P)) (λ _. All-before 58 text all) (λ _. tt);
-    authority = cond_both (has_authority (hierarchy text)) (Some (before 47 (drop 2 (hierarchy text)))) None (λ (o : Option Text). IfSome o (All P)) (λ _. All-before 47 (drop 2 (hierarchy text)) (All-drop P 2 (hierarchy text) (All-hierarchy text all))) (λ _. tt);
-    path = cond_both (has_authority (hierarchy text)) (from 47 (drop 2 (hierarchy text))) (hierarchy text) (All P) (λ _. All-drop P (position_or_len (λ b. nat_eq b 47) (drop 2 (hierarchy text))) (drop 2 (hierarchy text)) (All-drop P 2 (hierarchy text) (All-hierarchy text all))) (λ _. All-hierarchy text all);
+    authority =
+        cond_both (has_authority (hierarchy text)) (Some (before 47 (drop 2 (hierarchy text)))) None (λ (o : Option Text). IfSome o (All P))
+        (λ _. All-before 47 (drop 2 (hierarchy text)) (All-drop P 2 (hierarchy text) (All-hierarchy text all))) (λ _. tt);
+    path =
+        cond_both (has_authority (hierarchy text)) (from 47 (drop 2 (hierarchy text))) (hierarchy text) (All P)
+        (λ _. All-drop P (position_or_len (λ b. nat_eq b 47) (drop 2 (hierarchy text))) (drop 2 (hierarchy text)) (All-drop P 2 (hierarchy text) (All-hierarchy text all)))
+        (λ _. All-hierarchy text all);
     query = All-after 63 (before 35 (without_scheme text)) (All-before 35 (without_scheme text) (All-without_scheme text all));
     fragment = All-after 35 (without_scheme text) (All-without_scheme text all);
   }
@@ -72,7 +78,8 @@ module _ (P : ℕ → Type 0) (colon : P 58) (slash : P 47) (question_mark : P 6
       cond_both (begins b.input (codes "/../")) _ _ AllBuffers (λ _. both (drop 3 b.input) (without_last_segment b.output) (All-drop P 3 b.input h.input) (All-last b.output h.output)) (λ _.
       cond_both (bytes_eq b.input (codes "/..")) _ _ AllBuffers (λ _. both (codes "/") (without_last_segment b.output) (All-one 47 slash) (All-last b.output h.output)) (λ _.
       cond_both (bytes_eq b.input (codes ".") || bytes_eq b.input (codes "..")) _ _ AllBuffers (λ _. both [] b.output (All-nil P) h.output) (λ _.
-      both (drop (first_segment_len b.input) b.input) (b.output ++ take (first_segment_len b.input) b.input) (All-drop P (first_segment_len b.input) b.input h.input) (All-append P b.output (take (first_segment_len b.input) b.input) h.output (All-take P (first_segment_len b.input) b.input h.input)))))))))
+      both (drop (first_segment_len b.input) b.input) (b.output ++ take (first_segment_len b.input) b.input) (All-drop P (first_segment_len b.input) b.input h.input)
+      (All-append P b.output (take (first_segment_len b.input) b.input) h.output (All-take P (first_segment_len b.input) b.input h.input)))))))))
 
   All-turns : (n : ℕ) (b : Buffers) → AllBuffers b → AllBuffers (turns n b)
   All-turns zero b h = h
@@ -89,22 +96,27 @@ module _ (P : ℕ → Type 0) (colon : P 58) (slash : P 47) (question_mark : P 6
       cond_both (is_some base.authority && nat_eq (length base.path) 0) (codes "/" ++ path) (up_to_last_slash base.path ++ path) (All P)
       (λ _. All-append P (codes "/") path (All-one 47 slash) all)
       (λ _. All-append P (up_to_last_slash base.path) path
-      (cond_both (list_any (λ x. nat_eq x 47) base.path) (without_last_segment base.path ++ codes "/") [] (All P) (λ _. All-append P (without_last_segment base.path) (codes "/") (All-last base.path b.path) (All-one 47 slash)) (λ _. All-nil P))
+      (cond_both (list_any (λ x. nat_eq x 47) base.path) (without_last_segment base.path ++ codes "/") [] (All P)
+      (λ _. All-append P (without_last_segment base.path) (codes "/") (All-last base.path b.path) (All-one 47 slash)) (λ _. All-nil P))
       all)
 
-  parts : (scheme authority : Option Text) (path : Text) (query fragment : Option Text) → IfSome scheme (All P) → IfSome authority (All P) → All P path → IfSome query (All P) → IfSome fragment (All P) →
-      AllParts (record { scheme = scheme; authority = authority; path = path; query = query; fragment = fragment })
-  parts scheme authority path query fragment s a p q f = record { scheme = s; authority = a; path = p; query = q; fragment = f }
+  parts : (t : Components) → IfSome t.scheme (All P) → IfSome t.authority (All P) → All P t.path → IfSome t.query (All P) → IfSome t.fragment (All P) → AllParts t
+  parts t s a p q f = record { scheme = s; authority = a; path = p; query = q; fragment = f }
 
   All-target : (base reference : Components) → AllParts base → AllParts reference → AllParts (target base reference)
   unfolding target
   All-target base reference b r =
-      cond_both (is_some reference.scheme) _ _ AllParts (λ _. parts reference.scheme reference.authority (without_dot_segments reference.path) reference.query reference.fragment r.scheme r.authority (All-without_dot_segments reference.path r.path) r.query r.fragment) (λ _.
-      cond_both (is_some reference.authority) _ _ AllParts (λ _. parts base.scheme reference.authority (without_dot_segments reference.path) reference.query reference.fragment b.scheme r.authority (All-without_dot_segments reference.path r.path) r.query r.fragment) (λ _.
-      cond_both (nat_eq (length reference.path) 0) _ _ AllParts (λ _. parts base.scheme base.authority base.path (if is_some reference.query then reference.query else base.query) reference.fragment b.scheme b.authority b.path
+      let own = All-without_dot_segments reference.path r.path in
+      cond_both (is_some reference.scheme) _ _ AllParts (λ _. parts (record reference { path = without_dot_segments reference.path }) r.scheme r.authority own r.query r.fragment) (λ _.
+      cond_both (is_some reference.authority) _ _ AllParts
+      (λ _. parts (record reference { scheme = base.scheme; path = without_dot_segments reference.path }) b.scheme r.authority own r.query r.fragment) (λ _.
+      cond_both (nat_eq (length reference.path) 0) _ _ AllParts
+      (λ _. parts (record base { query = if is_some reference.query then reference.query else base.query; fragment = reference.fragment }) b.scheme b.authority b.path
       (cond_both (is_some reference.query) reference.query base.query (λ (o : Option Text). IfSome o (All P)) (λ _. r.query) (λ _. b.query)) r.fragment) (λ _.
-      cond_both (begins_with_slash reference.path) _ _ AllParts (λ _. parts base.scheme base.authority (without_dot_segments reference.path) reference.query reference.fragment b.scheme b.authority (All-without_dot_segments reference.path r.path) r.query r.fragment) (λ _.
-      parts base.scheme base.authority (without_dot_segments (merged base reference.path)) reference.query reference.fragment b.scheme b.authority (All-without_dot_segments (merged base reference.path) (All-merged base reference.path b r.path)) r.query r.fragment))))
+      let path : Text = if begins_with_slash reference.path then reference.path else merged base reference.path in
+      parts (record reference { scheme = base.scheme; authority = base.authority; path = without_dot_segments path }) b.scheme b.authority
+      (All-without_dot_segments path (cond_both (begins_with_slash reference.path) reference.path (merged base reference.path) (All P) (λ _. r.path) (λ _. All-merged base reference.path b r.path)))
+      r.query r.fragment)))
 
   -- ---- as one text
 
@@ -122,11 +134,13 @@ module _ (P : ℕ → Type 0) (colon : P 58) (slash : P 47) (question_mark : P 6
       All-append P _ (behind (codes "#") t.fragment)
       (All-append P _ (behind (codes "?") t.query)
       (All-append P _ t.path
-      (All-append P (before_colon t.scheme) (behind (codes "//") t.authority) (All-before_colon t.scheme h.scheme) (All-behind (codes "//") t.authority (All-cons P 47 (47 ∷ []) slash (All-one 47 slash)) h.authority))
+      (All-append P (before_colon t.scheme) (behind (codes "//") t.authority) (All-before_colon t.scheme h.scheme)
+      (All-behind (codes "//") t.authority (All-cons P 47 (47 ∷ []) slash (All-one 47 slash)) h.authority))
       h.path)
       (All-behind (codes "?") t.query (All-one 63 question_mark) h.query))
       (All-behind (codes "#") t.fragment (All-one 35 number_sign) h.fragment)
 
   pub All-resolved : (base reference : Text) → All P base → All P reference → All P (resolved base reference)
   unfolding resolved
-  All-resolved base reference b r = All-recomposed (target (components base) (components reference)) (All-target (components base) (components reference) (All-components base b) (All-components reference r))
+  All-resolved base reference b r =
+      All-recomposed (target (components base) (components reference)) (All-target (components base) (components reference) (All-components base b) (All-components reference r))

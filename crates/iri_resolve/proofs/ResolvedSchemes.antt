@@ -4,12 +4,11 @@ use Rattle.std.specs.List.{position_or_len}
 use Rattle.std.proofs.lemmas.List.{take_at}
 use Rattle.std.proofs.lemmas.List.Elements.{All-cons, All-weaker}
 use Rattle.std.proofs.lemmas.Bool.{ne_eqb, false≢true}
-use Rattle.rdf_terms.specs.Lists.{Text}
-use Rattle.rdf_terms.specs.Terms.{is_scheme_byte, HasScheme}
+use Rattle.rdf_terms.proofs.Common.{Text, is_scheme_byte, HasScheme}
 use Rattle.iri_resolve.specs.Scheme.{begins_with_scheme}
 use Rattle.iri_resolve.specs.Components.{Components, components, before, scheme_of}
 use Rattle.iri_resolve.specs.Resolution.{target, behind, recomposed, resolved}
-use Rattle.iri_resolve.proofs.Schemes.{prefix_len-append, may_stand, begins_with_scheme-HasScheme}
+use Rattle.iri_resolve.proofs.Schemes.{prefix_len-stopped, may_stand, begins_with_scheme-HasScheme}
 use Rattle.iri_resolve.proofs.Targets.{target-scheme, target-authority, target-empty, target-path}
 
 HasScheme-append : (text more : Text) → HasScheme text → HasScheme (text ++ more)
@@ -29,9 +28,11 @@ not_colon c may = ap not (ne_eqb c 58 (λ e. false≢true (subst (λ x. is_schem
 -- the scheme with its `:`
 HasScheme-before_colon : (text : Text) → HasScheme text → HasScheme (before 58 text ++ codes ":")
 HasScheme-before_colon text h =
-    let all : All (λ c. not (nat_eq c 58) ≡ true) (h.letter ∷ h.more) = All-cons (λ c. not (nat_eq c 58) ≡ true) h.letter h.more (not_colon h.letter (may_stand h.letter h.begins)) (All-weaker (λ c. is_scheme_byte c ≡ true) (λ c. not (nat_eq c 58) ≡ true) not_colon h.more h.goes_on) in
-    let n : position_or_len (λ c. nat_eq c 58) ((h.letter ∷ h.more) ++ 58 ∷ h.rest) ≡ length (h.letter ∷ h.more) = prefix_len-append (λ c. not (nat_eq c 58)) (h.letter ∷ h.more) h.rest 58 all refl in
-    let front : before 58 text ≡ h.letter ∷ h.more = ap (before 58) h.spelled ∙ ap (λ m. take m ((h.letter ∷ h.more) ++ 58 ∷ h.rest)) n ∙ take_at (h.letter ∷ h.more) (58 ∷ h.rest) (length (h.letter ∷ h.more)) refl in
+    let all : All (λ c. not (nat_eq c 58) ≡ true) (h.letter ∷ h.more) = All-cons (λ c. not (nat_eq c 58) ≡ true) h.letter h.more (not_colon h.letter (may_stand h.letter h.begins))
+    (All-weaker (λ c. is_scheme_byte c ≡ true) (λ c. not (nat_eq c 58) ≡ true) not_colon h.more h.goes_on) in
+    let n : position_or_len (λ c. nat_eq c 58) ((h.letter ∷ h.more) ++ 58 ∷ h.rest) ≡ length (h.letter ∷ h.more) = prefix_len-stopped (λ c. not (nat_eq c 58)) (h.letter ∷ h.more) h.rest 58 all refl in
+    let front : before 58 text ≡ h.letter ∷ h.more = ap (before 58) h.spelled ∙ ap (λ m. take m ((h.letter ∷ h.more) ++ 58 ∷ h.rest)) n
+    ∙ take_at (h.letter ∷ h.more) (58 ∷ h.rest) (length (h.letter ∷ h.more)) refl in
     record { letter = h.letter; more = h.more; rest = []; spelled = ap (λ t. t ++ codes ":") front; begins = h.begins; goes_on = h.goes_on }
 
 recomposed-HasScheme : (t : Components) (scheme : Text) → t.scheme ≡ Some scheme → HasScheme (scheme ++ codes ":") → HasScheme (recomposed t)
@@ -44,7 +45,8 @@ recomposed-HasScheme t scheme e h =
 target_scheme : (base reference : Components) → (target base reference).scheme ≡ (if is_some reference.scheme then reference.scheme else base.scheme)
 target_scheme base reference = by (is_some reference.scheme) (is_some reference.authority) (nat_eq (length reference.path) 0) refl refl refl
   where
-    by : (b c d : Bool) → is_some reference.scheme ≡ b → is_some reference.authority ≡ c → nat_eq (length reference.path) 0 ≡ d → (target base reference).scheme ≡ (if is_some reference.scheme then reference.scheme else base.scheme)
+    by : (b c d : Bool) → is_some reference.scheme ≡ b → is_some reference.authority ≡ c → nat_eq (length reference.path) 0 ≡ d
+        → (target base reference).scheme ≡ (if is_some reference.scheme then reference.scheme else base.scheme)
     by true c d s a e = rw (← target-scheme base reference s, s) refl
     by false true d s a e = rw (← target-authority base reference s a, s) refl
     by false false true s a e = rw (← target-empty base reference s a e, s) refl

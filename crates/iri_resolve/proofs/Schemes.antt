@@ -5,10 +5,10 @@ use Rattle.std.specs.Char.{is_ascii_alphabetic}
 use Rattle.std.proofs.lemmas.List.{take-append-drop, get_or-take, get_or_at, drop_more}
 use Rattle.std.proofs.lemmas.List.Sums.{prefix_len_passes}
 use Rattle.std.proofs.lemmas.Bool.{and_parts, ltb-true, eqb-true, lt-ltb}
-use Rattle.rdf_terms.specs.Lists.{Text}
+use Rattle.char_tables.proofs.LaneLengths.{prefix_len-append}
+use Rattle.rdf_terms.proofs.Common.{Text, is_scheme_byte, HasScheme}
 use Rattle.iri_resolve.proofs.FirstPlaces.{first_place-end}
 use Rattle.iri_resolve.specs.Scheme.{begins_with_scheme}
-use Rattle.rdf_terms.specs.Terms.{is_scheme_byte, HasScheme}
 
 -- the bytes at the front that may stand in a scheme
 abbrev pub scheme_len : Text → ℕ
@@ -20,10 +20,8 @@ pub record EndsScheme (text : Text) : Type 0 where
   pub letter : is_ascii_alphabetic (get_or text 0 0) ≡ true
 
 -- bytes that pass, and then one that does not
-pub prefix_len-append : (p : ℕ → Bool) (front rest : Text) (x : ℕ) → All (λ c. p c ≡ true) front → p x ≡ false → prefix_len p (front ++ x ∷ rest) ≡ length front
-prefix_len-append p [] rest x passes stops = rw stops refl
-prefix_len-append p (c ∷ cs) rest x passes stops =
-    rw (passes 0 c (omega arith)) (omega (arith, prefix_len-append p cs rest x (λ k d l. passes (suc k) d (omega arith)) stops))
+pub prefix_len-stopped : (p : ℕ → Bool) (front rest : Text) (x : ℕ) → All (λ c. p c ≡ true) front → p x ≡ false → prefix_len p (front ++ x ∷ rest) ≡ length front
+prefix_len-stopped p front rest x passes stops = prefix_len-append p front (x ∷ rest) passes ∙ rw stops (omega arith)
 
 -- a letter may stand in a scheme
 pub may_stand : (c : ℕ) → is_ascii_alphabetic c ≡ true → is_scheme_byte c ≡ true
@@ -32,7 +30,7 @@ may_stand c letter = grind (arith, letter)
 pub EndsScheme-from_HasScheme : (text : Text) → HasScheme text → EndsScheme text
 EndsScheme-from_HasScheme text h =
     let n : scheme_len (h.letter ∷ (h.more ++ 58 ∷ h.rest)) ≡ suc (length h.more) =
-    rw (may_stand h.letter h.begins) (omega (arith, prefix_len-append is_scheme_byte h.more h.rest 58 h.goes_on refl)) in
+    rw (may_stand h.letter h.begins) (omega (arith, prefix_len-stopped is_scheme_byte h.more h.rest 58 h.goes_on refl)) in
     rw h.spelled (record {
       within = rw n (omega (arith, length-append h.more (58 ∷ h.rest)));
       colon = rw n (get_or_at (h.letter ∷ h.more) 58 h.rest 0 _ refl);

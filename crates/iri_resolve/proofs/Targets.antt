@@ -46,7 +46,8 @@ module _ (base reference : Components) where
   unfolding target
   target-scheme s = rw s refl
 
-  pub target-authority : is_some reference.scheme ≡ false → is_some reference.authority ≡ true → with_path base.scheme reference.authority (target base reference).path reference.query ≡ target base reference
+  pub target-authority : is_some reference.scheme ≡ false → is_some reference.authority ≡ true
+      → with_path base.scheme reference.authority (target base reference).path reference.query ≡ target base reference
   unfolding target
   target-authority s a = rw (s, a) refl
 
@@ -55,7 +56,8 @@ module _ (base reference : Components) where
   unfolding target
   target-empty s a e = rw (s, a, e) refl
 
-  pub target-path : is_some reference.scheme ≡ false → is_some reference.authority ≡ false → nat_eq (length reference.path) 0 ≡ false → with_path base.scheme base.authority (target base reference).path reference.query ≡ target base reference
+  pub target-path : is_some reference.scheme ≡ false → is_some reference.authority ≡ false → nat_eq (length reference.path) 0 ≡ false
+      → with_path base.scheme base.authority (target base reference).path reference.query ≡ target base reference
   unfolding target
   target-path s a e = by (begins_with_slash reference.path) refl
     where
@@ -64,10 +66,12 @@ module _ (base reference : Components) where
       by false t = rw (s, a, e, t) refl
 
   pub target-below : is_some reference.scheme ≡ false → is_some reference.authority ≡ false →
-      with_path base.scheme base.authority (target base reference).path (if nat_eq (length reference.path) 0 then (if is_some reference.query then reference.query else base.query) else reference.query) ≡ target base reference
+      with_path base.scheme base.authority (target base reference).path (if nat_eq (length reference.path) 0 then (if is_some reference.query then reference.query else base.query)
+      else reference.query) ≡ target base reference
   target-below s a = by (nat_eq (length reference.path) 0) refl
     where
-      by : (b : Bool) → nat_eq (length reference.path) 0 ≡ b → with_path base.scheme base.authority (target base reference).path (if nat_eq (length reference.path) 0 then (if is_some reference.query then reference.query else base.query) else reference.query) ≡ target base reference
+      by : (b : Bool) → nat_eq (length reference.path) 0 ≡ b → with_path base.scheme base.authority (target base reference).path
+          (if nat_eq (length reference.path) 0 then (if is_some reference.query then reference.query else base.query) else reference.query) ≡ target base reference
       by true e = rw e (target-empty s a e)
       by false e = rw e (target-path s a e)
 
@@ -75,7 +79,8 @@ module _ (base reference : Components) where
   unfolding target
   path-own own = by (is_some reference.scheme) (is_some reference.authority) (nat_eq (length reference.path) 0) (begins_with_slash reference.path) refl refl refl refl own
     where
-      by : (b c d e : Bool) → is_some reference.scheme ≡ b → is_some reference.authority ≡ c → nat_eq (length reference.path) 0 ≡ d → begins_with_slash reference.path ≡ e → (is_some reference.scheme || (is_some reference.authority || begins_with_slash reference.path)) ≡ true → without_dot_segments reference.path ≡ (target base reference).path
+      by : (b c d e : Bool) → is_some reference.scheme ≡ b → is_some reference.authority ≡ c → nat_eq (length reference.path) 0 ≡ d → begins_with_slash reference.path ≡ e
+          → (is_some reference.scheme || (is_some reference.authority || begins_with_slash reference.path)) ≡ true → without_dot_segments reference.path ≡ (target base reference).path
       by true c d e s a l t own = rw s refl
       by false true d e s a l t own = rw (s, a) refl
       by false false true true s a l t own = absurd (empty_has_no_slash reference.path (eqb-true (length reference.path) 0 l) (eqb-true (get_or reference.path 0 0) 47 t))

@@ -34,7 +34,8 @@ no_last_place text none =
 abbrev EmptyOrSlash : Text → Type 0
 EmptyOrSlash after = (after ≡ []) ⊎ ((rest : Text) × (after ≡ 47 ∷ rest))
 
-drop_to_slash : (c : ℕ) (cs : Text) → EmptyOrSlash (drop (position_or_len (λ b. nat_eq b 47) cs) cs) → (b : Bool) → nat_eq c 47 ≡ b → EmptyOrSlash (drop (position_or_len (λ b. nat_eq b 47) (c ∷ cs)) (c ∷ cs))
+drop_to_slash : (c : ℕ) (cs : Text) → EmptyOrSlash (drop (position_or_len (λ b. nat_eq b 47) cs) cs) → (b : Bool) → nat_eq c 47 ≡ b
+    → EmptyOrSlash (drop (position_or_len (λ b. nat_eq b 47) (c ∷ cs)) (c ∷ cs))
 drop_to_slash c cs rest true e = inr (cs, rw (e, eqb-true c 47 e) refl)
 drop_to_slash c cs rest false e =
     let n : 1 + position_or_len (λ b. nat_eq b 47) cs ≡ suc (position_or_len (λ b. nat_eq b 47) cs) = omega arith in rw (e, n) rest
@@ -163,7 +164,8 @@ pub LeadsTo-start : (path : Text) → LeadsTo path path []
 unfolding without_dot_segments
 LeadsTo-start path = record { count = length path; enough = omega arith; same = refl }
 
-pub LeadsTo-turn : (path input output next output' : Text) → 0 < length input → length next < length input → buffers next output' ≡ turn (buffers input output) → LeadsTo path input output → LeadsTo path next output'
+pub LeadsTo-turn : (path input output next output' : Text) → 0 < length input → length next < length input → buffers next output' ≡ turn (buffers input output) → LeadsTo path input output
+    → LeadsTo path next output'
 LeadsTo-turn path input output next output' some shorter is h = by h.count h.enough h.same
   where
     by : (n : ℕ) → length input ≤ n → (turns n (buffers input output)).output ≡ without_dot_segments path → LeadsTo path next output'

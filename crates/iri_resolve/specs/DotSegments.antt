@@ -30,13 +30,13 @@ without_last_segment output = before_last (λ b. b == slash) output
 -- the first rule that fits
 unfoldable pub turn : Buffers → Buffers
 turn b =
-    -- a front `../` or `./` is dropped
+    -- `../` or `./` at the front is dropped
     if begins b.input (codes "../") then record { input = drop 3 b.input; output = b.output }
     else if begins b.input (codes "./") then record { input = drop 2 b.input; output = b.output }
-    -- a front `/./`, or `/.` that is all, becomes `/`
+    -- `/./` at the front, or `/.` that is all, becomes `/`
     else if begins b.input (codes "/./") then record { input = drop 2 b.input; output = b.output }
     else if bytes_eq b.input (codes "/.") then record { input = codes "/"; output = b.output }
-    -- a front `/../`, or `/..` that is all, becomes `/`, and the last segment of the output goes
+    -- `/../` at the front, or `/..` that is all, becomes `/`, and the last segment of the output goes
     else if begins b.input (codes "/../") then record { input = drop 3 b.input; output = without_last_segment b.output }
     else if bytes_eq b.input (codes "/..") then record { input = codes "/"; output = without_last_segment b.output }
     -- `.` or `..` that is all is dropped

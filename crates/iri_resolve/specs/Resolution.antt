@@ -23,40 +23,20 @@ begins_with_slash path = slice_index path 0 == slash
 
 unfoldable pub target : Components → Components → Components
 target base reference =
-    if is_some reference.scheme then record {
-      scheme = reference.scheme;
-      authority = reference.authority;
-      path = without_dot_segments reference.path;
-      query = reference.query;
-      fragment = reference.fragment;
-    }
-    else if is_some reference.authority then record {
+    if is_some reference.scheme then record reference { path = without_dot_segments reference.path }
+    else if is_some reference.authority then record reference {
       scheme = base.scheme;
-      authority = reference.authority;
       path = without_dot_segments reference.path;
-      query = reference.query;
-      fragment = reference.fragment;
     }
-    else if length reference.path == 0 then record {
-      scheme = base.scheme;
-      authority = base.authority;
-      path = base.path;
+    else if length reference.path == 0 then record base {
       query = if is_some reference.query then reference.query else base.query;
       fragment = reference.fragment;
     }
-    else if begins_with_slash reference.path then record {
+    else record reference {
       scheme = base.scheme;
       authority = base.authority;
-      path = without_dot_segments reference.path;
-      query = reference.query;
-      fragment = reference.fragment;
-    }
-    else record {
-      scheme = base.scheme;
-      authority = base.authority;
-      path = without_dot_segments (merged base reference.path);
-      query = reference.query;
-      fragment = reference.fragment;
+      path = without_dot_segments
+          (if begins_with_slash reference.path then reference.path else merged base reference.path);
     }
 
 -- ---- the components as one text (RFC 3986, section 5.3)
@@ -71,7 +51,9 @@ before_colon None = []
 before_colon (Some part) = part ++ codes ":"
 
 unfoldable pub recomposed : Components → Text
-recomposed t = before_colon t.scheme ++ behind (codes "//") t.authority ++ t.path ++ behind (codes "?") t.query ++ behind (codes "#") t.fragment
+recomposed t =
+    before_colon t.scheme ++ behind (codes "//") t.authority ++ t.path ++ behind (codes "?") t.query
+    ++ behind (codes "#") t.fragment
 
 unfoldable pub resolved : Text → Text → Text
 resolved base reference = recomposed (target (components base) (components reference))

@@ -2,8 +2,7 @@
 use Rattle.std.specs.Prelude.{Bool, ◌&&◌, ◌==◌, nat_lt, length, slice_index}
 use Rattle.std.specs.Char.{is_ascii_alphabetic}
 use Rattle.std.specs.List.{prefix_len}
-use Rattle.rdf_terms.specs.Lists.{Text}
-use Rattle.rdf_terms.specs.Terms.{is_scheme_byte}
+use Rattle.rdf_terms.specs.Vocabulary.{Text, is_scheme_byte}
 
 -- the bytes at the front that may stand in a scheme are followed by `:`, and the first of them is a letter
 abbrev pub begins_with_scheme : Text → Bool

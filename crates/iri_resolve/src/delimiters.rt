@@ -6,8 +6,8 @@ ghost use Rattle.std.specs.Option.{option_copied};
 ghost use Rattle.std.specs.Str.{IsCharBoundary};
 ghost use Rattle.iri_resolve.specs.Components.{before, after, from};
 
-/// The place of the first such character, or the end.
-pub fn place_of(text: &str, delimiter: char) -> usize
+// The place of the first such character, or the end.
+pub(crate) fn place_of(text: &str, delimiter: char) -> usize
     requires { delimiter < 128 }
     ensures is { result ≡ position_or_len (λ b. b == delimiter) text.now }
     ensures boundary { IsCharBoundary text.now result }
@@ -15,8 +15,8 @@ pub fn place_of(text: &str, delimiter: char) -> usize
     text.find(delimiter).unwrap_or(text.len())
 }
 
-/// What stands before the first such character, or all, and the rest from it on.
-pub fn split_before(text: &str, delimiter: char) -> (&str, &str)
+// What stands before the first such character, or all, and the rest from it on.
+pub(crate) fn split_before(text: &str, delimiter: char) -> (&str, &str)
     requires { delimiter < 128 }
     ensures front { result.0.now ≡ before delimiter text.now }
     ensures back { result.1.now ≡ from delimiter text.now }
@@ -24,8 +24,8 @@ pub fn split_before(text: &str, delimiter: char) -> (&str, &str)
     text.split_at(place_of(text, delimiter))
 }
 
-/// What stands before the first such character, or all, and what follows it, where there is one.
-pub fn cut(text: &str, delimiter: char) -> (&str, Option<&str>)
+// What stands before the first such character, or all, and what follows it, where there is one.
+pub(crate) fn cut(text: &str, delimiter: char) -> (&str, Option<&str>)
     requires { delimiter < 128 }
     ensures front { result.0.now ≡ before delimiter text.now }
     ensures back { option_copied result.1 ≡ after delimiter text.now }

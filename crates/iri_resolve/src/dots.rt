@@ -65,8 +65,8 @@ fn take_segment<'a>(input: &'a str, output: &mut String) -> Result<&'a str, NoMe
     }
 }
 
-/// The path without its dot segments (RFC 3986, section 5.2.4).
-pub fn remove_dot_segments(alloc: Global, path: &str) -> Result<String, NoMemory>
+// The path without its dot segments (RFC 3986, section 5.2.4).
+pub(crate) fn remove_dot_segments(alloc: Global, path: &str) -> Result<String, NoMemory>
     ensures { IfOk result (λ out. string_bytes out ≡ without_dot_segments path.now) }
 {
     let mut output = String::new(alloc);

@@ -74,37 +74,21 @@ fn target<'a>(base: &Parts<'a>, reference: &Parts<'a>, path: &'a str) -> Parts<'
     requires { path.now ≡ (target (components_of base.now) (components_of reference.now)).path }
     ensures { components_of result ≡ target (components_of base.now) (components_of reference.now) }
 {
-    let Parts {
-        scheme,
-        authority,
-        query,
-        fragment,
-        ..
-    } = *reference;
-    if scheme.is_some() {
-        Parts {
-            scheme,
-            authority,
-            path,
-            query,
-            fragment,
-        }
-    } else if authority.is_some() {
+    if reference.scheme.is_some() {
+        Parts { path, ..*reference }
+    } else if reference.authority.is_some() {
         Parts {
             scheme: base.scheme,
-            authority,
             path,
-            query,
-            fragment,
+            ..*reference
         }
     } else {
-        let query = query_below(base, reference);
         Parts {
             scheme: base.scheme,
             authority: base.authority,
             path,
-            query,
-            fragment,
+            query: query_below(base, reference),
+            ..*reference
         }
     }
 }

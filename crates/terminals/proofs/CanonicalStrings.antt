@@ -12,8 +12,7 @@ use Rattle.std.proofs.lemmas.List.Concat.{flat_map-append, flat_map-cons}
 use Rattle.std.proofs.lemmas.List.Elements.{All-nil, All-cons, All-head, All-tail}
 use Rattle.std.proofs.lemmas.Str.{encode_ascii, encodes-append, encodes-IsAscii, encodes_same, IsUtf8-from_ascii}
 use Rattle.std.proofs.lemmas.Str.Ascii.{IsAscii-cons, IsAscii-nil}
-use Rattle.rdf_terms.specs.Lists.{Text, In}
-use Rattle.rdf_terms.specs.CanonicalForm.{escaped, hex_digit, is_written_by_number}
+use Rattle.rdf_terms.proofs.Common.{Text, In, escaped, hex_digit, is_written_by_number}
 use Rattle.char_tables.specs.Rows.{is_in}
 use Rattle.char_tables.specs.Classes.{hex}
 use Rattle.terminals.specs.Terminal.{Characters}

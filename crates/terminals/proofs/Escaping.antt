@@ -1,10 +1,12 @@
 -- What the escapes at the front of a text rest on.
-use Rattle.std.proofs.Common.{◌≡◌, ◌≢◌, ℕ, suc, ◌^◌, ◌<◌, ◌≤◌, true, false, List, [], ◌∷◌, ◌++◌, All, length, take, refl, sym, ap, subst, ◌∙◌, arith, ◌⊎◌, inl, inr, lit<, true≢false}
+use Rattle.std.proofs.Common.{◌≡◌, ◌≢◌, ℕ, suc, ◌^◌, ◌<◌, ◌≤◌, true, false, List, [], ◌∷◌, ◌++◌, All, length, take, refl, sym, ap, subst, ◌∙◌, arith, ◌⊎◌, inl, inr, lit<, true≢false, Bool, not, ◌&&◌, nat_eq, nat_lt}
 use Rattle.std.specs.Prelude.{encode_utf8}
 use Rattle.std.specs.Char.{digit_value}
 use Rattle.std.specs.Str.{IsAscii, IsUtf8, IsCharBoundary}
 use Rattle.std.specs.Str.Parse.{digits_value, AllDigits}
+use Rattle.std.specs.List.{list_all}
 use Rattle.std.proofs.Math.Nat.{pow-le-pow_right}
+use Rattle.std.proofs.lemmas.Bool.{and_parts, ltb-true}
 use Rattle.std.proofs.lemmas.Bool.Decides.{nat_tests}
 use Rattle.std.proofs.lemmas.Int.Digits.{digits_value-lt}
 use Rattle.std.proofs.lemmas.Str.{encode_ascii, encode_same, IsUtf8-from_ascii, IsCharBoundary-from_take}
@@ -110,28 +112,23 @@ uchar_none text behind digits letter mark front not_u not_U spelled c rest split
 
 -- ---- ECHAR
 
+of_each : (p : ℕ × ℕ → Bool) (pairs : List (ℕ × ℕ)) (x : ℕ × ℕ) → list_all p pairs ≡ true → In x pairs → p x ≡ true
+of_each p [] x all there = absurd there
+of_each p (y ∷ ys) x all (inl e) = rw e (and_parts (p y) (list_all p ys) all).0
+of_each p (y ∷ ys) x all (inr there) = of_each p ys x (and_parts (p y) (list_all p ys) all).1 there
+
+-- what a test says of each pair of the table, it says of a letter and its meaning
+pub of_meaning : (p : ℕ × ℕ → Bool) (letter c : ℕ) → list_all p echar_meanings ≡ true → In (letter, c) echar_meanings → p (letter, c) ≡ true
+of_meaning p letter c all there = of_each p echar_meanings (letter, c) all there
+
 pub meaning_ascii : (letter c : ℕ) → In (letter, c) echar_meanings → letter < 128
-meaning_ascii letter c (inl e) = let l = ap (λ (p : ℕ × ℕ). p.0) e in omega arith
-meaning_ascii letter c (inr (inl e)) = let l = ap (λ (p : ℕ × ℕ). p.0) e in omega arith
-meaning_ascii letter c (inr (inr (inl e))) = let l = ap (λ (p : ℕ × ℕ). p.0) e in omega arith
-meaning_ascii letter c (inr (inr (inr (inl e)))) = let l = ap (λ (p : ℕ × ℕ). p.0) e in omega arith
-meaning_ascii letter c (inr (inr (inr (inr (inl e))))) = let l = ap (λ (p : ℕ × ℕ). p.0) e in omega arith
-meaning_ascii letter c (inr (inr (inr (inr (inr (inl e)))))) = let l = ap (λ (p : ℕ × ℕ). p.0) e in omega arith
-meaning_ascii letter c (inr (inr (inr (inr (inr (inr (inl e))))))) = let l = ap (λ (p : ℕ × ℕ). p.0) e in omega arith
-meaning_ascii letter c (inr (inr (inr (inr (inr (inr (inr (inl e)))))))) = let l = ap (λ (p : ℕ × ℕ). p.0) e in omega arith
-meaning_ascii letter c (inr (inr (inr (inr (inr (inr (inr (inr e)))))))) = absurd e
+meaning_ascii letter c there = ltb-true letter 128 (of_meaning (λ m. nat_lt m.0 128) letter c refl there)
 
 -- such a letter is neither `u` nor `U`
 pub meaning_letter : (letter c : ℕ) → In (letter, c) echar_meanings → (letter ≢ 117) × (letter ≢ 85)
-meaning_letter letter c (inl e) = let l = ap (λ (p : ℕ × ℕ). p.0) e in (λ h. omega arith, λ h. omega arith)
-meaning_letter letter c (inr (inl e)) = let l = ap (λ (p : ℕ × ℕ). p.0) e in (λ h. omega arith, λ h. omega arith)
-meaning_letter letter c (inr (inr (inl e))) = let l = ap (λ (p : ℕ × ℕ). p.0) e in (λ h. omega arith, λ h. omega arith)
-meaning_letter letter c (inr (inr (inr (inl e)))) = let l = ap (λ (p : ℕ × ℕ). p.0) e in (λ h. omega arith, λ h. omega arith)
-meaning_letter letter c (inr (inr (inr (inr (inl e))))) = let l = ap (λ (p : ℕ × ℕ). p.0) e in (λ h. omega arith, λ h. omega arith)
-meaning_letter letter c (inr (inr (inr (inr (inr (inl e)))))) = let l = ap (λ (p : ℕ × ℕ). p.0) e in (λ h. omega arith, λ h. omega arith)
-meaning_letter letter c (inr (inr (inr (inr (inr (inr (inl e))))))) = let l = ap (λ (p : ℕ × ℕ). p.0) e in (λ h. omega arith, λ h. omega arith)
-meaning_letter letter c (inr (inr (inr (inr (inr (inr (inr (inl e)))))))) = let l = ap (λ (p : ℕ × ℕ). p.0) e in (λ h. omega arith, λ h. omega arith)
-meaning_letter letter c (inr (inr (inr (inr (inr (inr (inr (inr e)))))))) = absurd e
+meaning_letter letter c there =
+    let t = of_meaning (λ m. not (nat_eq m.0 117) && not (nat_eq m.0 85)) letter c refl there in
+    (λ e. true≢false (sym t ∙ rw e refl), λ e. true≢false (sym t ∙ rw e refl))
 
 pub echar_found : (text behind rest : List ℕ) (letter c : ℕ) → text ≡ 92 ∷ behind → behind ≡ encode_utf8 letter ++ rest → In (letter, c) echar_meanings
     → BeginsWithOne IsEchar text c rest

@@ -1,13 +1,13 @@
 -- What readers of whole grammars rest on: a text begins with one reading of a terminal, and its value is what terms ask for.
 use Rattle.std.proofs.Common.{◌≡◌, ℕ, ◌<◌, true, false, not, List, [], ◌∷◌, ◌++◌, All, get_or, refl, sym, ap, subst, ◌∙◌, arith, ◌⊎◌, inl, inr}
+use Rattle.std.proofs.lemmas.List.Elements.{All-append}
 use Rattle.std.specs.Prelude.{encode_utf8, encode_utf8_all}
 use Rattle.std.specs.Char.{IsScalar}
 use Rattle.std.specs.Str.{IsUtf8, all_scalars}
 use Rattle.std.proofs.lemmas.Bool.{and_from, and_parts, not-true}
 use Rattle.std.proofs.lemmas.Bool.Decides.{nat_tests}
 use Rattle.std.proofs.lemmas.Str.{encodes_same, encodes-IsAscii}
-use Rattle.rdf_terms.specs.Lists.{Text, In}
-use Rattle.rdf_terms.specs.Terms.{is_excluded, HasScheme, IsAbsoluteIri, IsLanguageTag}
+use Rattle.rdf_terms.proofs.Common.{Text, In, is_excluded, HasScheme, IsAbsoluteIri, IsLanguageTag}
 use Rattle.char_tables.specs.Rows.{is_in}
 use Rattle.char_tables.specs.Classes.{excluded_from_iriref}
 use Rattle.terminals.specs.declared.bodies.Quote.{Quote}
@@ -23,7 +23,6 @@ use Rattle.terminals.proofs.Escaping.{same_tail, same_split}
 use Rattle.terminals.proofs.Plain.{bytes_stand}
 use Rattle.terminals.proofs.Unique.{same_run, none_at_mark}
 use Rattle.terminals.proofs.Running.{all_scalars-append_right}
-use Rattle.terminals.proofs.Labelling.{all_append}
 use Rattle.terminals.proofs.Tagging.{tag_ascii}
 
 -- the characters that IRIREF excludes are those that an IRI of a term excludes
@@ -133,7 +132,7 @@ one_allowed spelled c (inr (u, h)) = h
 
 allowed_all : (value spelled : List ℕ) → Spells Iri spelled value → All IsAllowed (encode_utf8_all value)
 allowed_all [] spelled x = λ k d l. absurd (omega arith)
-allowed_all (c ∷ cs) spelled (f, m, p, one, ones) = all_append IsAllowed (encode_utf8 c) (encode_utf8_all cs) (allowed_bytes c (one_allowed f c one)) (allowed_all cs m ones)
+allowed_all (c ∷ cs) spelled (f, m, p, one, ones) = All-append IsAllowed (encode_utf8 c) (encode_utf8_all cs) (allowed_bytes c (one_allowed f c one)) (allowed_all cs m ones)
 
 -- no byte of an IRI's value is excluded
 pub iri_allowed : (text value rest : Text) → TextBeginsWith IriRef text value rest → All (λ c. is_excluded c ≡ false) value

@@ -1,10 +1,10 @@
 -- How far a label goes.
-use Rattle.std.proofs.Common.{◌≡◌, ◌≢◌, ℕ, zero, suc, ◌+◌, ◌-◌, ◌<◌, ◌≤◌, Bool, true, false, not, ◌||◌, ◌==◌, List, [], ◌∷◌, ◌++◌, All, length, drop, get_or, nat_lt, refl, sym, ap, subst, ◌∙◌, arith, ◌⊎◌, inl, inr, true≢false}
+use Rattle.std.proofs.Common.{◌≡◌, ◌≢◌, ℕ, suc, ◌+◌, ◌-◌, ◌<◌, ◌≤◌, Bool, true, false, not, ◌||◌, ◌==◌, List, [], ◌∷◌, ◌++◌, All, length, drop, get_or, nat_lt, refl, sym, ap, subst, ◌∙◌, arith, ◌⊎◌, inl, inr, true≢false}
 use Rattle.std.specs.Prelude.{encode_utf8, encode_utf8_all}
 use Rattle.std.specs.List.{prefix_len}
 use Rattle.std.proofs.lemmas.Bool.{and_parts, or_left, or_right, or_from, eq-eqb, ne_eqb, ltb-true, cases_Bool, cases_lt}
 use Rattle.std.proofs.lemmas.List.{append_assoc, length-append, get_or_at, get_or-append_right, get_or_append_left}
-use Rattle.std.proofs.lemmas.List.Elements.{All-push}
+use Rattle.std.proofs.lemmas.List.Elements.{All-push, All-append}
 use Rattle.std.proofs.lemmas.Str.{cons_from_encodes, encode_ascii, encode_same, encodes-append, length-encode, len_utf8_bounds}
 use Rattle.char_tables.specs.Rows.{is_in}
 use Rattle.char_tables.specs.Classes.{pn_chars, is_ascii_pn}
@@ -38,11 +38,6 @@ BeginsWith-before mark terminal without spelled value rest fits = record {
       (λ k d l. ap not (ne_eqb (get_or other k d) mark (without other other_value is k d l)))
       (λ c more f. let same : mark ≡ c = cc in ap not (eq-eqb c mark (sym same)));
 }
-
-pub all_append : (P : ℕ → Type 0) (xs ys : List ℕ) → All P xs → All P ys → All P (xs ++ ys)
-all_append P [] ys x y k d l = y k d l
-all_append P (z ∷ xs) ys x y zero d l = x 0 d (omega arith)
-all_append P (z ∷ xs) ys x y (suc k) d l = all_append P xs ys (λ j e m. x (suc j) e (omega arith)) y k d (omega arith)
 
 pub goes_on_all : (grammar : Grammar) (more : List ℕ) → GoesOnAsLabel grammar more → All (λ c. is_inner grammar c ≡ true) more
 goes_on_all grammar more (inl e) = subst (All (λ c. is_inner grammar c ≡ true)) (sym e) (λ k d l. absurd (omega arith))
@@ -95,7 +90,7 @@ labelled_more grammar text end rest next c so first ends =
           ∙ ap (λ f. f ++ next) (sym (encodes-append so.front (so.dots ++ c ∷ [])) ∙ ap encode_utf8_all (sym (append_assoc so.front so.dots (c ∷ []))));
       end_is = sym back.2;
       rest_is = sym back.2;
-      fits = inr (so.front ++ so.dots, c, refl, all_append (λ x. is_inner grammar x ≡ true) so.front so.dots (goes_on_all grammar so.front so.fits) (dots_inner grammar so.dots so.all_dots), ends);
+      fits = inr (so.front ++ so.dots, c, refl, All-append (λ x. is_inner grammar x ≡ true) so.front so.dots (goes_on_all grammar so.front so.fits) (dots_inner grammar so.dots so.all_dots), ends);
       all_dots = λ k d l. absurd (omega arith);
     }
 

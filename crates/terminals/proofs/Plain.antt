@@ -1,5 +1,5 @@
 -- Characters that stand for themselves: the longest front of them is found by its bytes, since all others are ASCII.
-use Rattle.std.proofs.Common.{◌≡◌, ℕ, zero, suc, ◌+◌, ◌<◌, ◌≤◌, Bool, true, false, List, [], ◌∷◌, ◌++◌, All, length, drop, get_or, refl, sym, ap, subst, ◌∙◌, arith, ◌⊎◌, inl, inr, true≢false}
+use Rattle.std.proofs.Common.{◌≡◌, ℕ, zero, suc, ◌+◌, ◌<◌, ◌≤◌, true, false, List, [], ◌∷◌, ◌++◌, All, length, drop, get_or, refl, sym, ap, subst, ◌∙◌, arith, ◌⊎◌, inl, inr, true≢false}
 use Rattle.std.specs.Prelude.{encode_utf8, encode_utf8_all}
 use Rattle.std.specs.Char.{IsScalar}
 use Rattle.std.specs.List.{prefix_len}
@@ -8,6 +8,7 @@ use Rattle.std.proofs.lemmas.Bool.{and_parts, cases_Bool, cases_lt}
 use Rattle.std.proofs.lemmas.Bool.Decides.{nat_tests}
 use Rattle.std.proofs.lemmas.List.{append-nil, length-append, drop_at, get_or_default}
 use Rattle.std.proofs.lemmas.Str.{encode_ascii, inside_one, encodes-append, IsCharBoundary-from_drop}
+use Rattle.char_tables.proofs.LaneLengths.{prefix_len-append}
 use Rattle.terminals.specs.declared.bodies.Quote.TheVariants.{Double, Single}
 use Rattle.terminals.specs.declared.bodies.Body.{Body}
 use Rattle.terminals.specs.declared.bodies.Body.TheVariants.{Iri, Short, Long}
@@ -27,11 +28,6 @@ byte_past_ascii c k past within = by (cases_lt (get_or (encode_utf8 c) k 0) 128)
     by : (get_or (encode_utf8 c) k 0 < 128) ⊎ (128 ≤ get_or (encode_utf8 c) k 0) → 128 ≤ get_or (encode_utf8 c) k 0
     by (inl below) = let same = inside_one c [] (encode_utf8 c) k (sym (append-nil (encode_utf8 c))) within below in omega arith
     by (inr above) = above
-
-prefix_len-append : (p : ℕ → Bool) (xs ys : List ℕ) → All (λ c. p c ≡ true) xs → prefix_len p (xs ++ ys) ≡ length xs + prefix_len p ys
-prefix_len-append p [] ys all = omega arith
-prefix_len-append p (x ∷ xs) ys all =
-    rw (all 0 0 (omega arith)) (let rest = prefix_len-append p xs ys (λ k d l. all (suc k) d (omega arith)) in omega arith)
 
 pub all_one : (P : ℕ → Type 0) (x : ℕ) → P x → All P (x ∷ [])
 all_one P x h zero d l = h

@@ -3,8 +3,7 @@ use Rattle.std.proofs.Common.{◌≡◌, ◌≢◌, ℕ, ◌<◌, true, ◌==◌
 use Rattle.std.specs.Char.{is_ascii_digit, is_ascii_alphanumeric}
 use Rattle.std.proofs.lemmas.Bool.{or_cases, or_left, or_right}
 use Rattle.std.proofs.lemmas.List.Elements.{All-nil, All-cons, All-head, All-tail}
-use Rattle.rdf_terms.specs.Lists.{Text, In}
-use Rattle.rdf_terms.proofs.Membership.{In-append_right}
+use Rattle.rdf_terms.proofs.Common.{Text, In, In-append_right}
 use Rattle.char_tables.specs.Rows.{Rows, row_holds, is_in}
 use Rattle.char_tables.specs.Classes.{pn_chars_u_trig, pn_chars_u_nquads, pn_chars}
 use Rattle.terminals.specs.Terminal.{Characters}
@@ -43,7 +42,9 @@ plain_ends c h = by (plain_cases c h)
     holds e = or_left (is_in pn_chars c) (c == 58) e
 
     by : (row_holds (0x30, 0x39) c ≡ true) ⊎ ((row_holds (0x41, 0x5A) c ≡ true) ⊎ (row_holds (0x61, 0x7A) c ≡ true)) → ends_label NQuads c ≡ true
-    by (inl d) = holds (is_in-row (0x30, 0x39) pn_chars c (In-append_right pn_chars_u_trig ((0x2D, 0x2D) ∷ (0x30, 0x39) ∷ (0xB7, 0xB7) ∷ (0x300, 0x36F) ∷ (0x203F, 0x2040) ∷ []) (0x30, 0x39) (inr (inl refl))) d)
+    by (inl d) =
+        holds (is_in-row (0x30, 0x39) pn_chars c (In-append_right pn_chars_u_trig ((0x2D, 0x2D) ∷ (0x30, 0x39) ∷ (0xB7, 0xB7) ∷ (0x300, 0x36F) ∷ (0x203F, 0x2040) ∷ []) (0x30, 0x39)
+        (inr (inl refl))) d)
     by (inr (inl u)) = holds (is_in-row (0x41, 0x5A) pn_chars c (inl refl) u)
     by (inr (inr l)) = holds (is_in-row (0x61, 0x7A) pn_chars c (inr (inl refl)) l)
 

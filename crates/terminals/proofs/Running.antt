@@ -13,8 +13,7 @@ use Rattle.terminals.specs.Escapes.{BeginsWithOne, BeginsWithNoOne}
 use Rattle.terminals.specs.Spellings.{stands_for_itself, IsEscape, Spells, SpellsNone, BeginsWithRun}
 use Rattle.terminals.proofs.Plain.{plain_front, behind_plain, PlainFront}
 use Rattle.terminals.proofs.Unique.{spells-append, spells_escape, escape_ascii, escape_front}
-use Rattle.rdf_terms.specs.Lists.{In}
-use Rattle.rdf_terms.proofs.Membership.{In-append_left, In-append_right}
+use Rattle.rdf_terms.proofs.Common.{In, In-append_left, In-append_right}
 
 -- characters whose bytes begin with those of others begin with these
 pub front_from_encodes : (cs front : List ℕ) (rest : List ℕ) → encode_utf8_all cs ≡ encode_utf8_all front ++ rest
@@ -94,7 +93,8 @@ ran_step body text rest after next c h ran one cut =
       spells = spells-append body (ran.value ++ c ∷ []) plain.front (ran.spelled ++ one.spelled) plain.front
           (spells-append body ran.value (c ∷ []) ran.spelled one.spelled ran.spells (spells_escape body one.spelled c one.fits)) plain.spells;
       plain = λ e. absurd (true≢false e);
-      escaped = λ _. In-append_left (ran.spelled ++ one.spelled) plain.front 92 (In-append_right ran.spelled one.spelled 92 (subst (In 92) (sym (escape_front body one.spelled c one.fits).1) (inl refl)));
+      escaped =
+          λ _. In-append_left (ran.spelled ++ one.spelled) plain.front 92 (In-append_right ran.spelled one.spelled 92 (subst (In 92) (sym (escape_front body one.spelled c one.fits).1) (inl refl)));
       stops = plain.stops;
     }
 

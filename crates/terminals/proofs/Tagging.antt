@@ -11,8 +11,7 @@ use Rattle.std.proofs.lemmas.List.Sums.{prefix_len_passes, prefix_len_stops}
 use Rattle.std.proofs.lemmas.List.Folds.{length-prefix_len}
 use Rattle.std.proofs.lemmas.Str.{encode_ascii, encodes-append, encodes-IsAscii, IsAscii-append, IsUtf8-past_char, IsUtf8-from_ascii, IsCharBoundary-from_take, IsCharBoundary-at_seam}
 use Rattle.std.proofs.lemmas.Str.Ascii.{IsAscii-from_all, IsAscii-nil, IsAscii-cons}
-use Rattle.rdf_terms.specs.Lists.{Text}
-use Rattle.rdf_terms.specs.Terms.{IsLanguageTag, IsSubtag, behind_dashes}
+use Rattle.rdf_terms.proofs.Common.{Text, IsLanguageTag, IsSubtag, behind_dashes}
 use Rattle.terminals.specs.Terminal.{TextBeginsWith}
 use Rattle.terminals.specs.Terminals.{LangTag, BeginsWithSubtag, BeginsWithNoSubtag, BeginsWithSubtags}
 use Rattle.terminals.proofs.Escaping.{same_tail}
@@ -134,7 +133,15 @@ subtagged_more text rest next so one = record {
         (sym one.splits ∙ f ∙ ap (λ l. 45 ∷ l) (append_assoc t (behind_dashes ts) other_rest)) in
         elim (against_dashes is_ascii_alphanumeric refl one.subtag t next ts other_rest tail one.is_subtag.alphanumeric ((all 0 [] (omega arith)).alphanumeric) one.ends) [
           | inl r ↦ inl (within others other_rest e
-              (omega (arith, r.0, ap length tail, length-append one.subtag next, length-append t (behind_dashes ts ++ other_rest), length-append (behind_dashes ts) other_rest, ap (λ l. length (behind_dashes l)) r.1)))
+              (omega (
+                arith,
+                r.0,
+                ap length tail,
+                length-append one.subtag next,
+                length-append t (behind_dashes ts ++ other_rest),
+                length-append (behind_dashes ts) other_rest,
+                ap (λ l. length (behind_dashes l)) r.1,
+              )))
           | inr r ↦ inr (ts, r.1, λ k d l. all (suc k) d (omega arith))
         ]
 

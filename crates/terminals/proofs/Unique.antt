@@ -1,6 +1,7 @@
 -- Spelled characters are read in one way only.
 use Rattle.std.proofs.Common.{◌≡◌, ◌≢◌, ℕ, true, false, List, [], ◌∷◌, ◌++◌, refl, sym, ap, subst, ◌∙◌, arith, ◌⊎◌, inl, inr, true≢false, ◌==◌, if◌then◌else◌}
 use Rattle.std.specs.Str.{IsAscii}
+use Rattle.std.proofs.lemmas.Bool.{eqb-true}
 use Rattle.std.proofs.lemmas.List.{append_assoc, append-nil, append_cancel_left}
 use Rattle.std.proofs.lemmas.Str.Ascii.{IsAscii-cons, IsAscii-nil}
 use Rattle.rdf_terms.specs.Lists.{In}
@@ -9,23 +10,17 @@ use Rattle.terminals.specs.declared.bodies.Body.{Body}
 use Rattle.terminals.specs.declared.bodies.Body.TheVariants.{Iri, Short, Long}
 use Rattle.terminals.specs.Escapes.{echar_meanings, IsNumberOf, IsUchar, IsEchar, BeginsWithNoOne}
 use Rattle.terminals.specs.Spellings.{stands_for_itself, IsEscape, SpellsOne, Spells, SpellsNone}
-use Rattle.terminals.proofs.Escaping.{same_head, same_tail, same_uchar, meaning_ascii, meaning_letter, hex_is_ascii}
+use Rattle.terminals.proofs.Escaping.{of_meaning, same_head, same_tail, same_uchar, meaning_ascii, meaning_letter, hex_is_ascii}
 
 -- what a letter means, as a function
 meaning_of : ℕ → ℕ
-meaning_of letter = if letter == 116 then 9 else if letter == 98 then 8 else if letter == 110 then 10 else if letter == 114 then 13 else if letter == 102 then 12 else if letter == 34 then 34 else if letter == 39 then 39 else 92
+meaning_of letter =
+    if letter == 116 then 9 else if letter == 98 then 8 else if letter == 110 then 10 else if letter == 114 then 13 else if letter == 102 then 12 else if letter == 34 then 34 else if letter == 39
+    then 39 else 92
 
 meaning_is : (letter c : ℕ) → In (letter, c) echar_meanings → c ≡ meaning_of letter
 unfolding meaning_of
-meaning_is letter c (inl e) = ap (λ (p : ℕ × ℕ). p.1) e ∙ ap meaning_of (sym (ap (λ (p : ℕ × ℕ). p.0) e))
-meaning_is letter c (inr (inl e)) = ap (λ (p : ℕ × ℕ). p.1) e ∙ ap meaning_of (sym (ap (λ (p : ℕ × ℕ). p.0) e))
-meaning_is letter c (inr (inr (inl e))) = ap (λ (p : ℕ × ℕ). p.1) e ∙ ap meaning_of (sym (ap (λ (p : ℕ × ℕ). p.0) e))
-meaning_is letter c (inr (inr (inr (inl e)))) = ap (λ (p : ℕ × ℕ). p.1) e ∙ ap meaning_of (sym (ap (λ (p : ℕ × ℕ). p.0) e))
-meaning_is letter c (inr (inr (inr (inr (inl e))))) = ap (λ (p : ℕ × ℕ). p.1) e ∙ ap meaning_of (sym (ap (λ (p : ℕ × ℕ). p.0) e))
-meaning_is letter c (inr (inr (inr (inr (inr (inl e)))))) = ap (λ (p : ℕ × ℕ). p.1) e ∙ ap meaning_of (sym (ap (λ (p : ℕ × ℕ). p.0) e))
-meaning_is letter c (inr (inr (inr (inr (inr (inr (inl e))))))) = ap (λ (p : ℕ × ℕ). p.1) e ∙ ap meaning_of (sym (ap (λ (p : ℕ × ℕ). p.0) e))
-meaning_is letter c (inr (inr (inr (inr (inr (inr (inr (inl e)))))))) = ap (λ (p : ℕ × ℕ). p.1) e ∙ ap meaning_of (sym (ap (λ (p : ℕ × ℕ). p.0) e))
-meaning_is letter c (inr (inr (inr (inr (inr (inr (inr (inr e)))))))) = absurd e
+meaning_is letter c there = eqb-true c (meaning_of letter) (of_meaning (λ m. m.1 == meaning_of m.0) letter c refl there)
 
 -- each letter has one meaning
 one_meaning : (letter c d : ℕ) → In (letter, c) echar_meanings → In (letter, d) echar_meanings → c ≡ d

@@ -21,7 +21,8 @@ pub record IsUchar (spelled : Characters) (c : ℕ) : Type 0 where
   pub spelling : spelled ≡ 92 ∷ letter ∷ digits
   pub named : ((letter ≡ 117) × IsNumberOf 4 digits c) ⊎ ((letter ≡ 85) × IsNumberOf 8 digits c)
 
--- the letter of an ECHAR and the character that it means: HT, BS, LF, CR, FF, `"`, `'` and `\`, for `t`, `b`, `n`, `r`, `f`, `"`, `'` and `\`
+-- the letter of an ECHAR and the character that it means: HT, BS, LF, CR, FF, `"`, `'` and `\`, for `t`, `b`, `n`, `r`,
+-- `f`, `"`, `'` and `\`
 abbrev pub echar_meanings : List (ℕ × ℕ)
 echar_meanings = (116, 9) ∷ (98, 8) ∷ (110, 10) ∷ (114, 13) ∷ (102, 12) ∷ (34, 34) ∷ (39, 39) ∷ (92, 92) ∷ []
 
@@ -32,10 +33,12 @@ pub record IsEchar (spelled : Characters) (c : ℕ) : Type 0 where
   pub meaning : In (letter, c) echar_meanings
 
 -- the text begins with such a spelling of the character, and the rest follows; or with none
-pub record BeginsWithOne (spells : Characters → ℕ → Type 0) (text : Characters) (c : ℕ) (rest : Characters) : Type 0 where
+pub record BeginsWithOne (spells : Characters → ℕ → Type 0) (text : Characters) (c : ℕ)
+    (rest : Characters) : Type 0 where
   pub spelled : Characters
   pub splits : text ≡ spelled ++ rest
   pub fits : spells spelled c
 
 abbrev pub BeginsWithNoOne : (Characters → ℕ → Type 0) → Characters → Type 0
-BeginsWithNoOne spells text = (spelled : Characters) (c : ℕ) (rest : Characters) → text ≡ spelled ++ rest → ¬ (spells spelled c)
+BeginsWithNoOne spells text =
+    (spelled : Characters) (c : ℕ) (rest : Characters) → text ≡ spelled ++ rest → ¬ (spells spelled c)

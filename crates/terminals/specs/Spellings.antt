@@ -1,4 +1,5 @@
--- How the characters between the marks of an IRI or a string are spelled (RDF 1.1 N-Quads, section 4; RDF 1.1 TriG, section 4.5).
+-- How the characters between the marks of an IRI or a string are spelled (RDF 1.1 N-Quads, section 4; RDF 1.1 TriG,
+-- section 4.5).
 use Rattle.std.specs.Prelude.{◌≡◌, ℕ, Bool, true, false, not, ◌||◌, ◌==◌, ◌⊎◌, [], ◌∷◌, ◌++◌, encode_utf8_all}
 use Rattle.std.specs.Char.{IsScalar}
 use Rattle.rdf_terms.specs.Lists.{Text, In}
@@ -16,7 +17,8 @@ abbrev pub quote_mark : Quote → ℕ
 quote_mark Double = 34
 quote_mark Single = 39
 
--- Which characters stand for themselves: in an IRI those that IRIREF does not exclude, in a string all but its mark and `\`,
+-- Which characters stand for themselves: in an IRI those that IRIREF does not exclude, in a string all but its mark and
+-- `\`,
 -- and in a short string no line ends either.
 abbrev pub stands_for_itself : Body → ℕ → Bool
 stands_for_itself Iri c = not (is_in excluded_from_iriref c)
@@ -31,16 +33,20 @@ IsEscape (Long quote) spelled c = IsUchar spelled c ⊎ IsEchar spelled c
 
 -- one character with its spelling
 abbrev pub SpellsOne : Body → Characters → ℕ → Type 0
-SpellsOne body spelled c = ((spelled ≡ c ∷ []) × (stands_for_itself body c ≡ true) × IsScalar c) ⊎ IsEscape body spelled c
+SpellsOne body spelled c =
+    ((spelled ≡ c ∷ []) × (stands_for_itself body c ≡ true) × IsScalar c) ⊎ IsEscape body spelled c
 
 -- the spellings of the characters, one behind the other
 abbrev pub Spells : Body → Characters → Characters → Type 0
 Spells body spelled [] = spelled ≡ []
-Spells body spelled (c ∷ cs) = (first : Characters) × (more : Characters) × (spelled ≡ first ++ more) × SpellsOne body first c × Spells body more cs
+Spells body spelled (c ∷ cs) =
+    (first : Characters) × (more : Characters) × (spelled ≡ first ++ more) × SpellsOne body first c
+    × Spells body more cs
 
 -- no front of the characters spells one
 abbrev pub SpellsNone : Body → Characters → Type 0
-SpellsNone body characters = (one : Characters) (c : ℕ) (more : Characters) → characters ≡ one ++ more → ¬ (SpellsOne body one c)
+SpellsNone body characters =
+    (one : Characters) (c : ℕ) (more : Characters) → characters ≡ one ++ more → ¬ (SpellsOne body one c)
 
 -- characters in UTF-8 are spelled by others
 pub record TextSpells (body : Body) (spelled value : Text) : Type 0 where

@@ -13,7 +13,8 @@ pub record BeginsWith (terminal : Characters → Characters → Type 0) (text va
   pub spelled : Characters
   pub splits : text ≡ spelled ++ rest
   pub fits : terminal spelled value
-  pub longest : (other other_value other_rest : Characters) → text ≡ other ++ other_rest → terminal other other_value → length other ≤ length spelled
+  pub longest : (other other_value other_rest : Characters) → text ≡ other ++ other_rest → terminal other other_value
+      → length other ≤ length spelled
 
 -- no front of the text is the terminal
 abbrev pub BeginsWithNone : (Characters → Characters → Type 0) → Characters → Type 0
@@ -30,4 +31,5 @@ pub record TextBeginsWith (terminal : Characters → Characters → Type 0) (tex
   pub begins : BeginsWith terminal text_characters value_characters rest_characters
 
 abbrev pub TextBeginsWithNone : (Characters → Characters → Type 0) → Text → Type 0
-TextBeginsWithNone terminal text = (characters : Characters) → text ≡ encode_utf8_all characters → BeginsWithNone terminal characters
+TextBeginsWithNone terminal text =
+    (characters : Characters) → text ≡ encode_utf8_all characters → BeginsWithNone terminal characters

@@ -1,8 +1,7 @@
 -- The terminals that N-Quads and TriG share (RDF 1.1 N-Quads, section 4; RDF 1.1 TriG, section 4.5).
 use Rattle.std.specs.Prelude.{◌≡◌, ◌≤◌, ℕ, Bool, true, false, ◌||◌, ◌==◌, ◌⊎◌, List, [], ◌∷◌, ◌++◌, All, length, encode_utf8_all}
 use Rattle.std.specs.Char.{is_ascii_digit, is_ascii_alphanumeric}
-use Rattle.rdf_terms.specs.Lists.{Text, In}
-use Rattle.rdf_terms.specs.Terms.{IsLanguageTag, IsSubtag, behind_dashes}
+use Rattle.rdf_terms.specs.Vocabulary.{Text, In, IsLanguageTag, IsSubtag, behind_dashes}
 use Rattle.char_tables.specs.Rows.{is_in}
 use Rattle.char_tables.specs.Classes.{pn_chars_u_nquads, pn_chars_u_trig, pn_chars}
 use Rattle.terminals.specs.Terminal.{Characters, TextBeginsWith}
@@ -48,7 +47,8 @@ pub record BeginsWithSubtags (text rest : Text) : Type 0 where
   pub subtags : List Text
   pub splits : text ≡ behind_dashes subtags ++ rest
   pub are_subtags : All IsSubtag subtags
-  pub longest : (others : List Text) (other_rest : Text) → text ≡ behind_dashes others ++ other_rest → All IsSubtag others → length (behind_dashes others) ≤ length (behind_dashes subtags)
+  pub longest : (others : List Text) (other_rest : Text) → text ≡ behind_dashes others ++ other_rest
+      → All IsSubtag others → length (behind_dashes others) ≤ length (behind_dashes subtags)
 
 -- PN_CHARS_U or a digit, by which a label begins
 abbrev pub begins_label : Grammar → ℕ → Bool
@@ -72,7 +72,8 @@ pub record GoesOnAsLabelIn (grammar : Grammar) (text rest : Text) : Type 0 where
   pub text_is : text ≡ encode_utf8_all more ++ rest
   pub rest_is : rest ≡ encode_utf8_all rest_characters
   pub fits : GoesOnAsLabel grammar more
-  pub longest : (other other_rest : Characters) → more ++ rest_characters ≡ other ++ other_rest → GoesOnAsLabel grammar other → length other ≤ length more
+  pub longest : (other other_rest : Characters) → more ++ rest_characters ≡ other ++ other_rest
+      → GoesOnAsLabel grammar other → length other ≤ length more
 
 -- BLANK_NODE_LABEL: `_:` and the label, which is its value
 pub record BlankNodeLabel (grammar : Grammar) (spelled value : Characters) : Type 0 where
@@ -84,7 +85,8 @@ pub record BlankNodeLabel (grammar : Grammar) (spelled value : Characters) : Typ
   pub goes_on : GoesOnAsLabel grammar more
 
 -- the text begins with the terminal, whose value is what is spelled, and the rest follows
-pub record ReadsSpelling (terminal : Characters → Characters → Type 0) (text : Text) (spelling : Spelling) (rest : Text) : Type 0 where
+pub record ReadsSpelling (terminal : Characters → Characters → Type 0) (text : Text) (spelling : Spelling)
+    (rest : Text) : Type 0 where
   pub value : Text
   pub begins : TextBeginsWith terminal text value rest
   pub spells : TextSpells spelling.body spelling.text.now value

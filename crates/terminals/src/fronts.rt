@@ -1,4 +1,4 @@
-//! The first character of a text.
+//! What stands at the front of a text.
 
 ghost use Rattle.std.specs.Prelude.{◌≡◌, ◌≢◌, ◌<◌, ℕ, List, [], ◌∷◌, ◌++◌, encode_utf8, IfSome, IfNone};
 
@@ -24,4 +24,12 @@ pub fn first_char(text: &str) -> Option<(char, &str)>
     let mut chars = text.chars();
     let first = chars.next()?;
     Some((first, chars.as_str()))
+}
+
+/// How many bytes at the front of a text pass a test.
+#[macro_export]
+macro_rules! front_len {
+    ($text:expr, $passes:expr) => {
+        $text.as_bytes().iter().take_while($passes).count()
+    };
 }

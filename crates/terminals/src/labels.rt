@@ -6,6 +6,7 @@ ghost use Rattle.char_tables.specs.Classes.{is_ascii_pn};
 ghost use Rattle.terminals.specs.Terminal.{TextBeginsWith, TextBeginsWithNone};
 ghost use Rattle.terminals.specs.Terminals.{begins_label, ends_label, GoesOnAsLabelIn, BlankNodeLabel};
 
+use crate::front_len;
 use crate::fronts::{after, first_char};
 use char_tables::{is_pn, is_pn_byte, is_pn_u_nq, is_pn_u_ttl};
 
@@ -46,10 +47,7 @@ fn ascii_len(text: &str) -> usize
     ensures is { result ≡ prefix_len is_ascii_pn text.now }
     ensures within { result ≤ length text.now }
 {
-    text.as_bytes()
-        .iter()
-        .take_while(|byte| is_pn_byte(**byte))
-        .count()
+    front_len!(text, |byte| is_pn_byte(**byte))
 }
 
 // What follows the ASCII characters of PN_CHARS at the front. By each of them a label may end.

@@ -6,6 +6,7 @@ pub use delimited::{iriref, short_string};
 pub use fronts::{after, first_char};
 pub use labels::{Grammar, blank_node_label};
 pub use runs::{Spelling, run};
+pub use spelled_text::SpelledText;
 pub use tags::langtag;
 
 mod bodies;
@@ -14,4 +15,5 @@ mod escapes;
 mod fronts;
 mod labels;
 mod runs;
+mod spelled_text;
 mod tags;

@@ -1,13 +1,14 @@
 //! Characters as they are spelled between two marks.
 
-ghost use Rattle.std.specs.Prelude.{◌≡◌, ◌≤◌, ℕ, List, drop, length, string_bytes, OnOk, OnErr};
+ghost use Rattle.std.specs.Prelude.{◌≡◌, ◌≤◌, ℕ, List, false, drop, length, string_bytes, IfOk, OnOk, OnErr};
 ghost use Rattle.std.specs.List.{prefix_len};
 ghost use Rattle.terminals.specs.Spellings.{stands_for_itself, BeginsWithRun, TextSpells, IsFrontOf};
 
 use crate::escapes::escape;
-use crate::{Body, Quote};
+use crate::{Body, Quote, SpelledText, front_len};
 use char_tables::iri_len;
 use rdf_terms::NoMemory;
+use std::alloc::Global;
 
 /// Characters as they are spelled between two marks.
 #[derive(Clone, Copy, Debug)]
@@ -35,10 +36,7 @@ fn plain_short_len(text: &str, quote: Quote) -> usize
     ensures is { result ≡ prefix_len (stands_for_itself (Body.Short quote)) text.now }
     ensures within { result ≤ length text.now }
 {
-    text.as_bytes()
-        .iter()
-        .take_while(|byte| quote.short_takes(**byte))
-        .count()
+    front_len!(text, |byte| quote.short_takes(**byte))
 }
 
 // How many bytes at the front stand for themselves in a string between six quotes.
@@ -47,10 +45,7 @@ fn plain_long_len(text: &str, quote: Quote) -> usize
     ensures is { result ≡ prefix_len (stands_for_itself (Body.Long quote)) text.now }
     ensures within { result ≤ length text.now }
 {
-    text.as_bytes()
-        .iter()
-        .take_while(|byte| quote.long_takes(**byte))
-        .count()
+    front_len!(text, |byte| quote.long_takes(**byte))
 }
 
 // How many bytes at the front stand for themselves. Which test they pass is chosen once for all.
@@ -93,7 +88,20 @@ pub fn run(text: &str, body: Body) -> (Spelling<'_>, &str)
     (spelling, rest)
 }
 
-impl Spelling<'_> {
+impl<'a> Spelling<'a> {
+    /// The value.
+    #[inline(always)]
+    pub fn value(self, alloc: Global) -> Result<SpelledText<'a>, NoMemory>
+        ensures { (value : List ℕ) → TextSpells self.entry.body self.entry.text.now value → (self.entry.has_escapes ≡ false → self.entry.text.now ≡ value) → IfOk result (λ text. text ≡ value) }
+    {
+        if !self.has_escapes {
+            return Ok(SpelledText::of_text(self.text));
+        }
+        let mut value = String::new(alloc);
+        self.unescape(&mut value)?;
+        Ok(SpelledText::with_escapes_undone(value))
+    }
+
     /// Writes the value into `into`, in place of what it holds. After `NoMemory` it holds a front of
     /// the value.
     pub fn unescape(&self, into: &mut String) -> Result<(), NoMemory>

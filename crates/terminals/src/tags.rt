@@ -6,6 +6,7 @@ ghost use Rattle.std.specs.List.{prefix_len};
 ghost use Rattle.terminals.specs.Terminal.{TextBeginsWith, TextBeginsWithNone};
 ghost use Rattle.terminals.specs.Terminals.{LangTag, BeginsWithSubtag, BeginsWithNoSubtag, BeginsWithSubtags};
 
+use crate::front_len;
 use crate::fronts::after;
 
 // How many letters stand at the front.
@@ -13,10 +14,7 @@ fn letters_len(text: &str) -> usize
     ensures is { result ≡ prefix_len is_ascii_alphabetic text.now }
     ensures within { result ≤ length text.now }
 {
-    text.as_bytes()
-        .iter()
-        .take_while(|byte| byte.is_ascii_alphabetic())
-        .count()
+    front_len!(text, |byte| byte.is_ascii_alphabetic())
 }
 
 // How many letters and digits stand at the front.
@@ -24,10 +22,7 @@ fn alphanumeric_len(text: &str) -> usize
     ensures is { result ≡ prefix_len is_ascii_alphanumeric text.now }
     ensures within { result ≤ length text.now }
 {
-    text.as_bytes()
-        .iter()
-        .take_while(|byte| byte.is_ascii_alphanumeric())
-        .count()
+    front_len!(text, |byte| byte.is_ascii_alphanumeric())
 }
 
 // What follows the `-` and the longest subtag at the front.

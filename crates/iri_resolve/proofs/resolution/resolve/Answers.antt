@@ -1,7 +1,6 @@
 use Rattle.std.proofs.Common.{◌≡◌, ◌∙◌, sym, ap, subst, All, ℕ, false, refl}
 use Rattle.std.proofs.lemmas.Result.{IfOk-weaker}
-use Rattle.rdf_terms.specs.Lists.{Text}
-use Rattle.rdf_terms.specs.Terms.{HasScheme, is_excluded}
+use Rattle.rdf_terms.proofs.Common.{Text, HasScheme, is_excluded}
 use Rattle.iri_resolve.specs.Components.{Components, components}
 use Rattle.iri_resolve.specs.Resolution.{target, recomposed, resolved}
 use Rattle.iri_resolve.proofs.Allowed.{All-resolved}
@@ -9,7 +8,8 @@ use Rattle.iri_resolve.proofs.ResolvedSchemes.{resolved-HasScheme}
 use Rattle.iri_resolve.proofs.resolution.resolve.Goals as goal
 
 -- the text that is copied, by the steps that made it
-made : (base reference : Text) (b r t : Components) (text copied : Text) → copied ≡ text → text ≡ recomposed t → t ≡ target b r → b ≡ components base → r ≡ components reference → copied ≡ resolved base reference
+made : (base reference : Text) (b r t : Components) (text copied : Text) → copied ≡ text → text ≡ recomposed t → t ≡ target b r → b ≡ components base → r ≡ components reference
+    → copied ≡ resolved base reference
 unfolding resolved
 made base reference b r t text copied c m is of_base of_reference = c ∙ m ∙ ap recomposed (is ∙ (λ i. target (of_base i) (of_reference i)))
 

@@ -18,5 +18,5 @@ pub returns-else-is_some-2 : goal.returns-else-is_some-2
 returns-else-is_some-2 c =
     let base = components_of c.args.base.now in
     let reference = components_of c.args.reference.now in
-    rw (c.requires, c.query_below-query.ensures, option_copied-or c.args.reference.now.query c.args.base.now.query)
+    rw (c.requires, c.query_below.ensures, option_copied-or c.args.reference.now.query c.args.base.now.query)
     (target-below base reference (is_some-option_copied _ _ c.if-is_some.ensures) (is_some-option_copied _ _ c.if-is_some-2.ensures))

@@ -9,7 +9,8 @@ returns-then-has_own_path c =
     let base = components_of c.args.base.now in
     let reference = components_of c.args.reference.now in
     IfOk-weaker c.remove_dot_segments.result _ _
-    (λ path is. is ∙ path-own base reference (rw (is_some-option_copied c.args.reference.now.scheme _ refl, is_some-option_copied c.args.reference.now.authority _ refl) (sym c.if-has_own_path.ensures)))
+    (λ path is. is ∙ path-own base reference (rw (is_some-option_copied c.args.reference.now.scheme _ refl, is_some-option_copied c.args.reference.now.authority _ refl)
+    (sym c.if-has_own_path.ensures)))
     c.remove_dot_segments.ensures
 
 pub returns-in_ok-from_str : goal.returns-in_ok-from_str
@@ -17,7 +18,8 @@ returns-in_ok-from_str c =
     let base = components_of c.args.base.now in
     let reference = components_of c.args.reference.now in
     c.in_ok-from_str.ensures.ok
-    ∙ path-empty base reference (rw (is_some-option_copied c.args.reference.now.scheme _ refl, is_some-option_copied c.args.reference.now.authority _ refl) (sym c.if-has_own_path.ensures)) (sym c.if-is_empty.ensures)
+    ∙ path-empty base reference (rw (is_some-option_copied c.args.reference.now.scheme _ refl, is_some-option_copied c.args.reference.now.authority _ refl) (sym c.if-has_own_path.ensures))
+    (sym c.if-is_empty.ensures)
 
 pub returns-in_ok-merged : goal.returns-in_ok-merged
 returns-in_ok-merged c =
@@ -26,5 +28,6 @@ returns-in_ok-merged c =
     IfOk-weaker c.remove_dot_segments-else-is_empty.result _ _
     (λ path is.
     is ∙ rw (c.as_str.ensures.value, c.in_ok-merged.ensures)
-    (path-merged base reference (rw (is_some-option_copied c.args.reference.now.scheme _ refl, is_some-option_copied c.args.reference.now.authority _ refl) (sym c.if-has_own_path.ensures)) (sym c.if-is_empty.ensures)))
+    (path-merged base reference (rw (is_some-option_copied c.args.reference.now.scheme _ refl, is_some-option_copied c.args.reference.now.authority _ refl) (sym c.if-has_own_path.ensures))
+    (sym c.if-is_empty.ensures)))
     c.remove_dot_segments-else-is_empty.ensures

@@ -9,7 +9,8 @@ returns-in_err-first-clause-none c =
 
 pub returns-then-not-begins_label-clause-none : goal.returns-then-not-begins_label-clause-none
 returns-then-not-begins_label-clause-none c =
-    label_none_first c.args.grammar c.args.text.now _ _ c.in_ok-after.ensures.found c.in_ok-label.ensures.found _ _ c.in_ok-first.ensures.found (sym c.begins_label.ensures ∙ c.if-not-begins_label.true)
+    label_none_first c.args.grammar c.args.text.now _ _ c.in_ok-after.ensures.found c.in_ok-label.ensures.found _ _ c.in_ok-first.ensures.found
+    (sym c.begins_label.ensures ∙ c.if-not-begins_label.true)
 
 pub range-requires-clause-end_boundary : goal.range-requires-clause-end_boundary
 range-requires-clause-end_boundary c =
@@ -17,4 +18,5 @@ range-requires-clause-end_boundary c =
 
 pub returns-clause-found : goal.returns-clause-found
 returns-clause-found c =
-    label_found c.args.grammar c.args.text.now _ _ c.in_ok-after.ensures.found c.in_ok-label.ensures.found _ _ _ c.in_ok-first.ensures.found c.after_label-rest.ensures _ c.range.ensures.value (sym c.begins_label.ensures ∙ c.if-not-begins_label.false)
+    label_found c.args.grammar c.args.text.now _ _ c.in_ok-after.ensures.found c.in_ok-label.ensures.found _ _ _ c.in_ok-first.ensures.found c.after_label-rest.ensures _ c.range.ensures.value
+    (sym c.begins_label.ensures ∙ c.if-not-begins_label.false)
