@@ -12,23 +12,13 @@ use Rattle.trig_lexer.specs.Strings.{QuotedShapes}
 use Rattle.trig_lexer.specs.Names.{NameShapes}
 use Rattle.trig_lexer.specs.Tokens.{IsToken}
 use Rattle.trig_lexer.specs.Groups.{WordShapes, AtShapes, GroupShapes}
+use Rattle.trig_lexer.proofs.LongerOf.{longest_same}
 
 -- what is found does not change with the way in which the shapes are told
 pub finds_same : (one other : Kind → Characters → Type 0) → ((kind : Kind) (spelled : Characters) → one kind spelled → other kind spelled)
     → ((kind : Kind) (spelled : Characters) → other kind spelled → one kind spelled) → (text : Text) (found : Option Found) → Finds one text found → Finds other text found
 finds_same one other to from text None none = λ characters e kind spelled rest splits is. none characters e kind spelled rest splits (from kind spelled is)
-finds_same one other to from text (Some x) p = record {
-  text_characters = p.text_characters;
-  rest_characters = p.rest_characters;
-  text_is = p.text_is;
-  rest_is = p.rest_is;
-  begins = record {
-    spelled = p.begins.spelled;
-    splits = p.begins.splits;
-    fits = to x.kind p.begins.spelled p.begins.fits;
-    longest = λ kind others other_rest e is. p.begins.longest kind others other_rest e (from kind others is);
-  };
-}
+finds_same one other to from text (Some x) p = longest_same one other to from text x.kind x.rest.now p
 
 -- ---- from groups to tokens
 

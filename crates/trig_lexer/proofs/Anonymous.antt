@@ -11,7 +11,7 @@ use Rattle.trig_lexer.specs.declared.kind.Kind.{Kind}
 use Rattle.trig_lexer.specs.declared.kind.Kind.TheVariants.{Anon}
 use Rattle.trig_lexer.specs.Fronts.{TextReads}
 use Rattle.trig_lexer.specs.Longest.{TextBeginsWithLongest, TextBeginsWithNoToken}
-use Rattle.trig_lexer.specs.WhiteSpace.{ends_line, is_white, IsAtLineEnd, IsGapThen, BeginsWithNoGap, AreGapsThen, IsSkipped}
+use Rattle.trig_lexer.specs.WhiteSpace.{ends_line, is_white_space, IsAtLineEnd, IsGapThen, BeginsWithNoGap, AreGapsThen, IsSkipped}
 use Rattle.trig_lexer.specs.WhiteSpace.AreGapsThen.{no_gap, one_gap}
 use Rattle.trig_lexer.specs.Words.{IsAnon}
 use Rattle.trig_lexer.specs.Groups.{AnonShapes}
@@ -32,8 +32,8 @@ same_line (c ∷ xs) [] us vs e x y ends_us ends_vs =
 same_line (c ∷ xs) (d ∷ ys) us vs e x y ends_us ends_vs =
     same_line xs ys us vs (same_tail c d (xs ++ us) (ys ++ vs) e) (λ k n l. x (suc k) n (omega arith)) (λ k n l. y (suc k) n (omega arith)) ends_us ends_vs
 
-white_or_comment : (c : ℕ) (rest more : Characters) → c ∷ rest ≡ 35 ∷ more → is_white c ≡ true → ⊥
-white_or_comment c rest more e white = true≢false (sym white ∙ ap is_white (same_head c 35 rest more e))
+white_or_comment : (c : ℕ) (rest more : Characters) → c ∷ rest ≡ 35 ∷ more → is_white_space c ≡ true → ⊥
+white_or_comment c rest more e white = true≢false (sym white ∙ ap is_white_space (same_head c 35 rest more e))
 
 same_gap : (text one other : Characters) → IsGapThen text one → IsGapThen text other → one ≡ other
 same_gap text one other (inl (c, e, white)) (inl (d, f, also)) = same_tail c d one other (sym e ∙ f)
@@ -131,7 +131,7 @@ bracket_is_no_hash : (bracket hash : ℕ) → bracket ≡ hash → bracket ≡ 9
 bracket_is_no_hash bracket hash e is_bracket is_hash = omega arith
 
 no_gap_at_bracket : (more : Characters) → BeginsWithNoGap (93 ∷ more)
-no_gap_at_bracket more rest (inl (c, e, white)) = true≢false (sym white ∙ ap is_white (sym (same_head 93 c more rest e)))
+no_gap_at_bracket more rest (inl (c, e, white)) = true≢false (sym white ∙ ap is_white_space (sym (same_head 93 c more rest e)))
 no_gap_at_bracket more rest (inr (line, e, is)) = bracket_is_no_hash 93 35 (same_head 93 35 more line e) refl refl
 
 -- what follows the `[` of any ANON goes on to its `]`
@@ -159,7 +159,7 @@ module _ (text inside behind : Text) (mark : text ≡ 91 ∷ inside) (skipped : 
     rest_characters = back.0;
     text_is = whole;
     rest_is = sym back.2;
-    begins = record {
+    reads = record {
       spelled = 91 ∷ cut.front;
       splits = ap (λ t. 91 ∷ t) cut.splits;
       fits = (refl, (cut.front, refl, record { gaps = cut.gaps; ends = no_gap_at_bracket [] }));

@@ -23,7 +23,7 @@ module _ (shapes : Kind → Characters → Type 0) (ascii : (kind : Kind) (spell
         rest_characters = back.0;
         text_is = sym utf8.1.1;
         rest_is = sym back.2;
-        begins = record {
+        reads = record {
           spelled = begins.spelled;
           splits = back.1;
           fits = begins.fits;

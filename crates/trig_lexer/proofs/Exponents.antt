@@ -6,7 +6,8 @@ use Rattle.std.proofs.lemmas.Bool.Decides.{nat_tests}
 use Rattle.std.proofs.lemmas.List.{append_assoc, length-append}
 use Rattle.std.proofs.lemmas.Str.Ascii.{IsAscii-cons}
 use Rattle.terminals.proofs.Escaping.{same_tail}
-use Rattle.trig_lexer.specs.Numbers.{AreSomeDigits, IsExponentLetter, IsExponent, BeginsWithSign, BeginsWithDigits, BeginsWithLetter, BeginsWithNoLetter, BeginsWithExponent, BeginsWithNoExponent}
+use Rattle.trig_lexer.specs.Fronts.{BeginsWithNoShape, BeginsWithLongestShape}
+use Rattle.trig_lexer.specs.Numbers.{AreSomeDigits, IsExponentLetter, IsExponent, BeginsWithSign, BeginsWithDigits, BeginsWithLetter, BeginsWithNoLetter}
 use Rattle.trig_lexer.proofs.Digits.{digits_ascii, digits_within}
 use Rattle.trig_lexer.proofs.Signs.{IsSignMark, BeginsUnsigned, signed_same, signed_length, signed_ascii}
 
@@ -35,9 +36,6 @@ pub letter_none : (text : List ℕ) → ((rest : List ℕ) → text ≢ 101 ∷ 
 letter_none text no_e no_capital letter rest e (inl is) = no_e rest (e ∙ ap (λ c. c ∷ rest) is)
 letter_none text no_e no_capital letter rest e (inr is) = no_capital rest (e ∙ ap (λ c. c ∷ rest) is)
 
-pub exponent_none : (text : List ℕ) → BeginsWithNoLetter text → BeginsWithNoExponent text
-exponent_none text none exponent rest e is = none is.letter (is.power ++ rest) (e ∙ ap (λ s. s ++ rest) is.spelling) is.letter_is
-
 module _ (text power : List ℕ) (letter : BeginsWithLetter text power) where
   behind_letter : (exponent rest : List ℕ) → text ≡ exponent ++ rest → (is : IsExponent exponent) → power ≡ is.power ++ rest
   behind_letter exponent rest e is = same_tail letter.0 is.letter power (is.power ++ rest) (sym letter.1 ∙ e ∙ ap (λ s. s ++ rest) is.spelling)
@@ -55,15 +53,15 @@ module _ (text power : List ℕ) (letter : BeginsWithLetter text power) where
         let whole = ap length is.spelling in
         (omega arith, omega arith)
 
-    pub exponent_none_digits : length unsigned ≤ length rest → BeginsWithNoExponent text
+    pub exponent_none_digits : length unsigned ≤ length rest → BeginsWithNoShape IsExponent text
     exponent_none_digits short other other_rest e is =
         let some = (other_digits other other_rest e is).1 in
         let whole = ap length digits.splits ∙ length-append digits.digits rest in
         absurd (omega arith)
 
-    pub exponent_found : length rest < length unsigned → BeginsWithExponent text rest
+    pub exponent_found : length rest < length unsigned → BeginsWithLongestShape IsExponent text rest
     exponent_found short = record {
-      exponent = letter.0 ∷ (sign.sign ++ digits.digits);
+      front = letter.0 ∷ (sign.sign ++ digits.digits);
       splits = letter.1 ∙ ap (λ p. letter.0 ∷ p) (sign.splits ∙ ap (λ u. sign.sign ++ u) digits.splits ∙ sym (append_assoc sign.sign digits.digits rest));
       fits = record {
         letter = letter.0;

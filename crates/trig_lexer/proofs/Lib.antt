@@ -1,8 +1,8 @@
+pub mod Texts
 pub mod Longest
 pub mod LongerOf
 pub mod WordFronts
 pub mod AtWords
-pub mod Texts
 pub mod WhiteSpace
 pub mod Anonymous
 pub mod AsciiTokens

@@ -1,5 +1,6 @@
 -- The parts of prefixed names: where the first `:` stands, and what a local part is without its escapes.
 use Rattle.std.proofs.Common.{◌≡◌, ◌≢◌, ℕ, suc, ◌<◌, ◌≤◌, Bool, true, false, not, ◌==◌, ◌&&◌, List, [], ◌∷◌, ◌++◌, All, length, get_or, refl, sym, ap, subst, ◌∙◌, arith, ◌⊎◌, inl, inr, true≢false, if◌then◌else◌}
+use Rattle.std.proofs.lemmas.List.Elements.{All-append}
 use Rattle.std.specs.Prelude.{encode_utf8, encode_utf8_all}
 use Rattle.std.specs.List.{concat}
 use Rattle.std.proofs.lemmas.Bool.{cases_lt, ne_eqb, eq-eqb, eqb-true, and_parts, and_from}
@@ -7,14 +8,12 @@ use Rattle.std.proofs.lemmas.Bool.Decides.{nat_tests}
 use Rattle.std.proofs.lemmas.List.{append_assoc, append-nil, get_or_default}
 use Rattle.std.proofs.lemmas.Str.{encodes-append, encode_ascii, encodes-IsAscii, length-encode, len_utf8_bounds}
 use Rattle.std.proofs.lemmas.Str.Ascii.{IsAscii-nil, IsAscii-cons}
-use Rattle.rdf_terms.specs.Lists.{Text}
-use Rattle.rdf_terms.specs.Terms.{is_excluded}
+use Rattle.rdf_terms.proofs.Common.{Text, is_excluded}
 use Rattle.char_tables.specs.Rows.{is_in}
 use Rattle.char_tables.specs.Classes.{hex}
 use Rattle.terminals.specs.Terminal.{Characters}
 use Rattle.terminals.proofs.Marks.{encodes_ascii_front}
 use Rattle.terminals.proofs.Plain.{byte_past_ascii, all_one}
-use Rattle.terminals.proofs.Labelling.{all_append}
 use Rattle.trig_lexer.specs.declared.parts.Part.TheVariants.{Local}
 use Rattle.trig_lexer.specs.declared.parts.Place.{Place}
 use Rattle.trig_lexer.specs.declared.parts.Place.TheVariants.{First, Later}
@@ -26,7 +25,7 @@ use Rattle.trig_lexer.proofs.Naming.{prefix_no_colon}
 -- what holds of the characters and of all bytes that are no ASCII holds of the bytes
 bytes_all : (P : ℕ → Type 0) → ((b : ℕ) → 128 ≤ b → P b) → (cs : Characters) → All P cs → All P (encode_utf8_all cs)
 bytes_all P past [] all = λ k d l. absurd (omega arith)
-bytes_all P past (c ∷ cs) all = all_append P (encode_utf8 c) (encode_utf8_all cs) (one (cases_lt c 128)) (bytes_all P past cs (λ k d l. all (suc k) d (omega arith)))
+bytes_all P past (c ∷ cs) all = All-append P (encode_utf8 c) (encode_utf8_all cs) (one (cases_lt c 128)) (bytes_all P past cs (λ k d l. all (suc k) d (omega arith)))
   where
     one : (c < 128) ⊎ (128 ≤ c) → All P (encode_utf8 c)
     one (inl ascii) = subst (All P) (sym (encode_ascii c ascii)) (all_one P c (all 0 0 (omega arith)))
@@ -98,7 +97,8 @@ unescaped-escaped c ys = by (cases_lt c 128)
 
 -- a character that is no `\`
 unescaped-char : (c : ℕ) (ys : Text) → c ≢ 92 → unescaped (encode_utf8 c ++ ys) ≡ encode_utf8 c ++ unescaped ys
-unescaped-char c ys other = unescaped-plain (encode_utf8 c) ys (subst HasNoBackslash (append-nil (encode_utf8 c)) (bytes_all (λ b. b ≢ 92) (λ b past e. absurd (omega arith)) (c ∷ []) (all_one (λ b. b ≢ 92) c other)))
+unescaped-char c ys other =
+    unescaped-plain (encode_utf8 c) ys (subst HasNoBackslash (append-nil (encode_utf8 c)) (bytes_all (λ b. b ≢ 92) (λ b past e. absurd (omega arith)) (c ∷ []) (all_one (λ b. b ≢ 92) c other)))
 
 -- one character at the front, which is left out where it escapes the next one
 pub unescaped-step : (escaped escapes : Bool) (c : ℕ) (text next : Text) → escapes ≡ (c == 92 && not escaped) → text ≡ encode_utf8 c ++ next
@@ -134,7 +134,7 @@ nothing_unescapes = record { value = []; allowed = λ k d l. absurd (omega arith
 append_unescapes : (xs ys : Text) → Unescapes xs → Unescapes ys → Unescapes (xs ++ ys)
 append_unescapes xs ys x y = record {
   value = x.value ++ y.value;
-  allowed = all_append IsAllowed x.value y.value x.allowed y.allowed;
+  allowed = All-append IsAllowed x.value y.value x.allowed y.allowed;
   unescapes = λ rest. ap unescaped (append_assoc xs ys rest) ∙ x.unescapes (ys ++ rest) ∙ ap (λ r. x.value ++ r) (y.unescapes rest) ∙ sym (append_assoc x.value y.value (unescaped rest));
 }
 
@@ -173,7 +173,8 @@ plx_unescapes spelled (inl p) =
     (subst Unescapes (sym (encodes-append (37 ∷ []) (p.first ∷ p.second ∷ [])))
     (append_unescapes (encode_utf8_all (37 ∷ [])) (encode_utf8_all (p.first ∷ p.second ∷ [])) (char_unescapes 37 refl)
     (subst Unescapes (sym (encodes-append (p.first ∷ []) (p.second ∷ [])))
-    (append_unescapes (encode_utf8_all (p.first ∷ [])) (encode_utf8_all (p.second ∷ [])) (char_unescapes p.first (hex_allowed p.first p.first_hex)) (char_unescapes p.second (hex_allowed p.second p.second_hex))))))
+    (append_unescapes (encode_utf8_all (p.first ∷ [])) (encode_utf8_all (p.second ∷ [])) (char_unescapes p.first (hex_allowed p.first p.first_hex))
+    (char_unescapes p.second (hex_allowed p.second p.second_hex))))))
 plx_unescapes spelled (inr e) = subst (λ s. Unescapes (encode_utf8_all s)) (sym e.spelling) (escape_unescapes e.c e.escaped)
 
 -- what may stand in a local part is not excluded

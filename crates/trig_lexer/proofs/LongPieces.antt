@@ -109,7 +109,9 @@ pub same_long : (quote : Quote) (xs ys us vs : Characters) → xs ++ us ≡ ys +
 same_long quote xs ys us vs e x y = by through.0 through.1 through.2 through.3
   where
     whole : concat x.pieces ++ (three_marks quote ++ us) ≡ concat y.pieces ++ (three_marks quote ++ vs)
-    whole = append_cancel_left (three_marks quote) (concat x.pieces ++ (three_marks quote ++ us)) (concat y.pieces ++ (three_marks quote ++ vs)) (sym (long_splits quote xs us x) ∙ e ∙ long_splits quote ys vs y)
+    whole =
+        append_cancel_left (three_marks quote) (concat x.pieces ++ (three_marks quote ++ us)) (concat y.pieces ++ (three_marks quote ++ vs))
+        (sym (long_splits quote xs us x) ∙ e ∙ long_splits quote ys vs y)
 
     through : (rs : List Characters) × (three_marks quote ++ us ≡ concat rs ++ (three_marks quote ++ vs)) × All (IsLongPiece quote) rs × (y.pieces ≡ x.pieces ++ rs)
     through = pieces_through quote x.pieces y.pieces (three_marks quote ++ us) vs whole x.are_pieces y.are_pieces

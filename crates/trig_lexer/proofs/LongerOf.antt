@@ -10,6 +10,7 @@ use Rattle.trig_lexer.specs.declared.kind.Kind.{Kind}
 use Rattle.trig_lexer.specs.declared.found.Found.{Found}
 use Rattle.trig_lexer.specs.Longest.{TextBeginsWithLongest, TextBeginsWithNoToken, Either}
 use Rattle.trig_lexer.specs.Longer.{IsLonger, Finds}
+use Rattle.trig_lexer.proofs.Texts.{reads_then}
 
 pub finds_from : (shapes : Kind → Characters → Type 0) (text : Text) (found : Option Found)
     → IfSome found (λ x. TextBeginsWithLongest shapes text x.kind x.rest.now) → IfNone found (TextBeginsWithNoToken shapes text) → Finds shapes text found
@@ -36,60 +37,51 @@ front_reaches (x ∷ xs) (y ∷ ys) us vs e h =
     let more = front_reaches xs ys us vs tail h in
     omega arith
 
+-- a token does not change with the way in which the shapes are told
+pub longest_same : (one other : Kind → Characters → Type 0) → ((kind : Kind) (spelled : Characters) → one kind spelled → other kind spelled)
+    → ((kind : Kind) (spelled : Characters) → other kind spelled → one kind spelled) → (text : Text) (kind : Kind) (rest : Text) → TextBeginsWithLongest one text kind rest
+    → TextBeginsWithLongest other text kind rest
+longest_same one other to from text kind rest p =
+    reads_then p (record {
+      spelled = p.reads.spelled;
+      splits = p.reads.splits;
+      fits = to kind p.reads.spelled p.reads.fits;
+      longest = λ k others more e is. p.reads.longest k others more e (from k others is);
+    })
+
 module _ (one other : Kind → Characters → Type 0) (text : Text) where
-  -- the first of two, where the second is no longer
+  -- a token of the first of two families, where none of the second is longer
+  among_both : (x : Found) (p : TextBeginsWithLongest one text x.kind x.rest.now)
+      → ((k : Kind) (others more : Characters) → p.text_characters ≡ others ++ more → other k others → length others ≤ length p.reads.spelled)
+      → TextBeginsWithLongest (Either one other) text x.kind x.rest.now
+  among_both x p within = reads_then p (record { spelled = p.reads.spelled; splits = p.reads.splits; fits = inl p.reads.fits; longest = longest })
+    where
+      longest : (k : Kind) (others more : Characters) → p.text_characters ≡ others ++ more → Either one other k others → length others ≤ length p.reads.spelled
+      longest k others more e (inl is) = p.reads.longest k others more e is
+      longest k others more e (inr is) = within k others more e is
+
   first_of_both : (x y : Found) → TextBeginsWithLongest one text x.kind x.rest.now → TextBeginsWithLongest other text y.kind y.rest.now
       → length x.rest.now ≤ length y.rest.now → TextBeginsWithLongest (Either one other) text x.kind x.rest.now
-  first_of_both x y p q leaves = record {
-    text_characters = p.text_characters;
-    rest_characters = p.rest_characters;
-    text_is = p.text_is;
-    rest_is = p.rest_is;
-    begins = record { spelled = p.begins.spelled; splits = p.begins.splits; fits = inl p.begins.fits; longest = longest };
-  }
+  first_of_both x y p q leaves = among_both x p (λ k others more e is. let within = q.reads.longest k others more (sym same ∙ e) is in omega (arith, reaches))
     where
       same : p.text_characters ≡ q.text_characters
       same = encodes_same p.text_characters q.text_characters (sym p.text_is ∙ q.text_is)
 
-      reaches : length q.begins.spelled ≤ length p.begins.spelled
-      reaches = front_reaches p.begins.spelled q.begins.spelled p.rest_characters q.rest_characters (sym p.begins.splits ∙ same ∙ q.begins.splits)
+      reaches : length q.reads.spelled ≤ length p.reads.spelled
+      reaches = front_reaches p.reads.spelled q.reads.spelled p.rest_characters q.rest_characters (sym p.reads.splits ∙ same ∙ q.reads.splits)
           (omega (arith, ap length p.rest_is, ap length q.rest_is))
 
-      longest : (kind : Kind) (others other_rest : Characters) → p.text_characters ≡ others ++ other_rest → Either one other kind others → length others ≤ length p.begins.spelled
-      longest kind others other_rest e (inl is) = p.begins.longest kind others other_rest e is
-      longest kind others other_rest e (inr is) = let within = q.begins.longest kind others other_rest (sym same ∙ e) is in omega (arith, reaches)
-
   first_alone : (x : Found) → TextBeginsWithLongest one text x.kind x.rest.now → TextBeginsWithNoToken other text → TextBeginsWithLongest (Either one other) text x.kind x.rest.now
-  first_alone x p none = record {
-    text_characters = p.text_characters;
-    rest_characters = p.rest_characters;
-    text_is = p.text_is;
-    rest_is = p.rest_is;
-    begins = record { spelled = p.begins.spelled; splits = p.begins.splits; fits = inl p.begins.fits; longest = longest };
-  }
-    where
-      longest : (kind : Kind) (others other_rest : Characters) → p.text_characters ≡ others ++ other_rest → Either one other kind others → length others ≤ length p.begins.spelled
-      longest kind others other_rest e (inl is) = p.begins.longest kind others other_rest e is
-      longest kind others other_rest e (inr is) = absurd (none p.text_characters p.text_is kind others other_rest e is)
+  first_alone x p none = among_both x p (λ k others more e is. absurd (none p.text_characters p.text_is k others more e is))
 
 -- the order of two families never matters
 swapped : (one other : Kind → Characters → Type 0) (text : Text) (kind : Kind) (rest : Text) → TextBeginsWithLongest (Either one other) text kind rest
     → TextBeginsWithLongest (Either other one) text kind rest
-swapped one other text kind rest p = record {
-  text_characters = p.text_characters;
-  rest_characters = p.rest_characters;
-  text_is = p.text_is;
-  rest_is = p.rest_is;
-  begins = record { spelled = p.begins.spelled; splits = p.begins.splits; fits = turned p.begins.fits; longest = longest };
-}
+swapped one other = longest_same (Either one other) (Either other one) (turned one other) (turned other one)
   where
-    turned : Either one other kind p.begins.spelled → Either other one kind p.begins.spelled
-    turned (inl is) = inr is
-    turned (inr is) = inl is
-
-    longest : (k : Kind) (others other_rest : Characters) → p.text_characters ≡ others ++ other_rest → Either other one k others → length others ≤ length p.begins.spelled
-    longest k others other_rest e (inl is) = p.begins.longest k others other_rest e (inr is)
-    longest k others other_rest e (inr is) = p.begins.longest k others other_rest e (inl is)
+    turned : (one other : Kind → Characters → Type 0) (kind : Kind) (spelled : Characters) → Either one other kind spelled → Either other one kind spelled
+    turned one other kind spelled (inl is) = inr is
+    turned one other kind spelled (inr is) = inl is
 
 pub finds_either : (one other : Kind → Characters → Type 0) (text : Text) (x y result : Option Found) → Finds one text x → Finds other text y → IsLonger x y result
     → Finds (Either one other) text result

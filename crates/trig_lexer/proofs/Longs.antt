@@ -1,5 +1,7 @@
 -- Strings at the front of a text.
 use Rattle.std.proofs.Common.{◌≡◌, ◌≢◌, zero, suc, ◌+◌, ◌<◌, ◌≤◌, List, [], ◌∷◌, ◌++◌, All, length, refl, sym, ap, subst, ◌∙◌, arith, ◌⊎◌, inl, inr}
+use Rattle.std.proofs.lemmas.List.Folds.{concat-append}
+use Rattle.std.proofs.lemmas.List.Elements.{All-append}
 use Rattle.std.specs.Prelude.{encode_utf8_all}
 use Rattle.std.specs.List.{concat}
 use Rattle.std.specs.Str.{IsAscii, IsUtf8}
@@ -13,13 +15,11 @@ use Rattle.terminals.specs.declared.bodies.Body.TheVariants.{Long}
 use Rattle.terminals.specs.declared.runs.Spelling.{Spelling}
 use Rattle.terminals.specs.Terminal.{Characters}
 use Rattle.terminals.specs.Spellings.{quote_mark, Spells, BeginsWithRun}
-use Rattle.terminals.proofs.Escaping.{same_tail}
 use Rattle.terminals.proofs.Running.{front_from_encodes}
 use Rattle.terminals.proofs.Tagging.{utf8_behind_mark}
 use Rattle.trig_lexer.specs.Fronts.{BeginsWithShape, BeginsWithNoShape, TextReads, TextReadsNone}
 use Rattle.trig_lexer.specs.Strings.{three_marks, IsLongPiece, IsLongString, BeginsWithMarks, AreLongPieces}
 use Rattle.trig_lexer.proofs.Texts.{reads_at}
-use Rattle.trig_lexer.proofs.Pieces.{concat-append, all_parts}
 use Rattle.trig_lexer.proofs.LongPieces.{AreMarks, NoMark, same_marks, three_are_marks, long_body, one_no_mark, piece_no_three, pieces_through, long_splits, all_cons, run_pieces}
 
 -- ---- marks
@@ -40,10 +40,6 @@ step_marks quote cs marks text rest all is front =
 
 marks_encoded : (quote : Quote) (marks more : Characters) → AreMarks quote marks → encode_utf8_all (marks ++ more) ≡ marks ++ encode_utf8_all more
 marks_encoded quote marks more all = encodes-append marks more ∙ ap (λ m. m ++ encode_utf8_all more) (encodes-IsAscii marks (marks_ascii quote marks all))
-
-pub three_none : (quote : Quote) (text one : Text) → text ≡ quote_mark quote ∷ one → ((rest : Text) → one ≢ quote_mark quote ∷ quote_mark quote ∷ rest)
-    → (rest : Text) → text ≢ three_marks quote ++ rest
-three_none quote text one e none rest f = none rest (same_tail (quote_mark quote) (quote_mark quote) one (quote_mark quote ∷ quote_mark quote ∷ rest) (sym e ∙ f))
 
 pub utf8_behind_three : (quote : Quote) (text rest : Text) → text ≡ three_marks quote ++ rest → IsUtf8 text → IsUtf8 rest
 utf8_behind_three quote text rest e utf8 =
@@ -108,7 +104,8 @@ module _ (quote : Quote) (text bare rest : Text) (spelling : Spelling) (marks : 
       let splits : is.marks ++ (is.one ++ more) ≡ marks.marks ++ step.0 =
       sym (e ∙ ap (λ p. p ++ more) is.spelling ∙ append_assoc is.marks is.one more) ∙ step.1 in
       let no_mark : NoMark quote step.0 = λ after f. bare_no_mark marks.ends (encode_utf8_all after) (step.2 ∙ ap encode_utf8_all f ∙ marks_encoded quote (quote_mark quote ∷ []) after one_is_mark) in
-      let same = same_marks quote is.marks marks.marks (is.one ++ more) step.0 splits is.are_marks marks.are_marks (one_no_mark quote (Long quote) (long_body quote) is.one more is.c is.spells) no_mark in
+      let same = same_marks quote is.marks marks.marks (is.one ++ more) step.0 splits is.are_marks marks.are_marks (one_no_mark quote (Long quote) (long_body quote) is.one more is.c is.spells) no_mark
+      in
       let empty : run.spelled_characters ≡ [] = no_bytes run.spelled_characters (omega (arith, bare_len)) in
       let behind : step.0 ≡ run.rest_characters = encodes_same step.0 run.rest_characters (sym step.2 ∙ run.text_is ∙ ap (λ s. encode_utf8_all (s ++ run.rest_characters)) empty) in
       run.ends is.one is.c more (sym behind ∙ sym same.1) is.spells
@@ -156,7 +153,7 @@ longing_more quote text rest next so x =
           (ap (λ b. concat so.pieces ++ b) (at.2.splits ∙ ap (λ f. f ++ at.0) at.2.fits.spelling) ∙ sym (append_assoc (concat so.pieces) (concat at.2.fits.pieces) at.0)
           ∙ ap (λ f. f ++ at.0) (sym (concat-append so.pieces at.2.fits.pieces)));
       rest_is = at.1;
-      are_pieces = all_parts (IsLongPiece quote) so.pieces at.2.fits.pieces so.are_pieces at.2.fits.are_pieces;
+      are_pieces = All-append (IsLongPiece quote) so.pieces at.2.fits.pieces so.are_pieces at.2.fits.are_pieces;
     }
 
 pub longing_end : (quote : Quote) (text rest end : Text) → Longing quote text rest → rest ≡ three_marks quote ++ end → TextReads (BeginsWithShape (IsLongString quote)) text end
@@ -190,11 +187,6 @@ longing_none quote text rest so unclosed none cs text_is front more e is = by th
     by : (rs : List Characters) → so.behind ≡ concat rs ++ (three_marks quote ++ more) → All (IsLongPiece quote) rs → ⊥
     by [] f all = unclosed (encode_utf8_all more) (so.rest_is ∙ ap encode_utf8_all f ∙ marks_encoded quote (three_marks quote) more (three_are_marks quote))
     by (r ∷ rs) f all = none so.behind so.rest_is r (concat rs ++ (three_marks quote ++ more)) (f ∙ append_assoc r (concat rs) (three_marks quote ++ more)) (all 0 [] (omega arith))
-
-pub unopened : (quote : Quote) (text : Text) → ((rest : Text) → text ≢ three_marks quote ++ rest) → TextReadsNone (BeginsWithNoShape (IsLongString quote)) text
-unopened quote text none cs text_is front more e is =
-    none (encode_utf8_all (concat is.pieces ++ (three_marks quote ++ more)))
-    (text_is ∙ ap encode_utf8_all (e ∙ long_splits quote front more is) ∙ marks_encoded quote (three_marks quote) (concat is.pieces ++ (three_marks quote ++ more)) (three_are_marks quote))
 
 pub pieces_smaller : (quote : Quote) (rest next : Text) → TextReads (BeginsWithShape (AreLongPieces quote)) rest next → length next < length rest
 pieces_smaller quote rest next x = omega (arith, bytes, some_characters x.reads.fits.pieces x.reads.fits.are_pieces x.reads.fits.some, length-le-encodes x.reads.front, ap length x.reads.fits.spelling)

@@ -1,5 +1,6 @@
 -- Prefixed names: what stands before the first `:` and behind it.
 use Rattle.std.proofs.Common.{◌≡◌, ◌≢◌, ℕ, suc, ◌≤◌, Bool, true, false, not, ◌==◌, List, [], ◌∷◌, ◌++◌, All, length, refl, sym, ap, subst, ◌∙◌, arith, ◌⊎◌, inl, inr, true≢false}
+use Rattle.std.proofs.lemmas.List.Elements.{All-append}
 use Rattle.std.specs.Prelude.{encode_utf8_all}
 use Rattle.std.specs.List.{concat}
 use Rattle.std.specs.Str.{IsUtf8}
@@ -10,16 +11,16 @@ use Rattle.terminals.specs.Terminal.{Characters}
 use Rattle.terminals.proofs.Escaping.{same_head, same_split}
 use Rattle.terminals.proofs.Plain.{all_one}
 use Rattle.terminals.proofs.Marks.{encodes_ascii_front}
-use Rattle.terminals.proofs.Labelling.{passing_within, all_append}
+use Rattle.terminals.proofs.Labelling.{passing_within}
 use Rattle.trig_lexer.specs.declared.kind.Kind.{Kind}
 use Rattle.trig_lexer.specs.declared.kind.Kind.TheVariants.{PnameNs, PnameLn}
 use Rattle.trig_lexer.specs.declared.parts.Part.TheVariants.{Prefix, Local}
 use Rattle.trig_lexer.specs.declared.parts.Place.{Place}
 use Rattle.trig_lexer.specs.declared.parts.Place.TheVariants.{First, Later}
-use Rattle.trig_lexer.specs.Longest.{TextBeginsWithLongest, TextBeginsWithNoToken}
+use Rattle.trig_lexer.specs.Longest.{TextBeginsWithLongest}
 use Rattle.trig_lexer.specs.Fronts.{BeginsWithShape, BeginsWithNoShape, BeginsWithLongestShape, TextReads, TextReadsNone}
 use Rattle.trig_lexer.specs.Names.{takes, IsPiece, GoesOnAsPart, IsPart, IsPnameNs, IsPnameLn, NameShapes}
-use Rattle.trig_lexer.proofs.Texts.{step_mark, reads_at}
+use Rattle.trig_lexer.proofs.Texts.{step_mark, reads_at, reads_then}
 use Rattle.trig_lexer.proofs.Pieces.{IsInner}
 
 -- ---- no `:` stands in a prefix
@@ -52,16 +53,16 @@ inner_no_colon piece (inr dot) = subst HasNoColon (sym dot) (all_one (λ d. is_n
 pieces_no_colon : (pieces : List Characters) → All (IsInner Prefix) pieces → HasNoColon (concat pieces)
 pieces_no_colon [] all = λ k d l. absurd (omega arith)
 pieces_no_colon (p ∷ ps) all =
-    all_append (λ c. is_no_colon c ≡ true) p (concat ps) (inner_no_colon p (all 0 [] (omega arith))) (pieces_no_colon ps (λ k d l. all (suc k) d (omega arith)))
+    All-append (λ c. is_no_colon c ≡ true) p (concat ps) (inner_no_colon p (all 0 [] (omega arith))) (pieces_no_colon ps (λ k d l. all (suc k) d (omega arith)))
 
 more_no_colon : (more : Characters) → GoesOnAsPart Prefix more → HasNoColon more
 more_no_colon more (inl nothing) = subst HasNoColon (sym nothing) (λ k d l. absurd (omega arith))
 more_no_colon more (inr (inner, last, e, all, ends)) =
-    subst HasNoColon (sym e) (all_append (λ c. is_no_colon c ≡ true) (concat inner) last (pieces_no_colon inner all) (piece_no_colon Later last ends))
+    subst HasNoColon (sym e) (All-append (λ c. is_no_colon c ≡ true) (concat inner) last (pieces_no_colon inner all) (piece_no_colon Later last ends))
 
 part_no_colon : (xs : Characters) → IsPart Prefix xs → HasNoColon xs
 part_no_colon xs is =
-    subst HasNoColon (sym is.spelling) (all_append (λ c. is_no_colon c ≡ true) is.first is.more (piece_no_colon First is.first is.begins) (more_no_colon is.more is.goes_on))
+    subst HasNoColon (sym is.spelling) (All-append (λ c. is_no_colon c ≡ true) is.first is.more (piece_no_colon First is.first is.begins) (more_no_colon is.more is.goes_on))
 
 pub prefix_no_colon : (xs : Characters) → (xs ≡ []) ⊎ IsPart Prefix xs → HasNoColon xs
 prefix_no_colon xs (inl nothing) = subst HasNoColon (sym nothing) (λ k d l. absurd (omega arith))
@@ -123,16 +124,6 @@ bare_found text behind utf8 colon =
       reads = record { front = 58 ∷ []; splits = step.1; fits = record { prefix = []; spelling = refl; is_prefix = inl refl } };
     }
 
-pub bare_none : (text : Text) → TextReadsNone (BeginsWithNoShape (IsPart Prefix)) text → ((behind : Text) → text ≢ 58 ∷ behind) → TextReadsNone (BeginsWithNoShape IsPnameNs) text
-bare_none text no_prefix none cs text_is front more e is = by is.is_prefix
-  where
-    whole : cs ≡ is.prefix ++ 58 ∷ more
-    whole = e ∙ namespace_splits front more is
-
-    by : (is.prefix ≡ []) ⊎ IsPart Prefix is.prefix → ⊥
-    by (inl nothing) = none (encode_utf8_all more) (text_is ∙ ap encode_utf8_all (whole ∙ ap (λ p. p ++ 58 ∷ more) nothing) ∙ encodes_ascii_front 58 more (omega arith))
-    by (inr part) = no_prefix cs text_is is.prefix (58 ∷ more) whole part
-
 -- ---- the name
 
 name_is : (kind : Kind) (xs : Characters) → NameShapes kind xs → IsPnameNs xs ⊎ IsPnameLn xs
@@ -144,11 +135,6 @@ name_is _ xs is = absurd is
 namespace_front : (xs : Characters) → IsPnameNs xs ⊎ IsPnameLn xs → (more : Characters) × (namespace : Characters) × (xs ≡ namespace ++ more) × IsPnameNs namespace
 namespace_front xs (inl is) = ([], xs, sym (append-nil xs), is)
 namespace_front xs (inr is) = (is.local, is.namespace, is.spelling, is.is_namespace)
-
-pub name_none : (text : Text) → TextReadsNone (BeginsWithNoShape IsPnameNs) text → TextBeginsWithNoToken NameShapes text
-name_none text none cs text_is kind xs rest e is =
-    let front = namespace_front xs (name_is kind xs is) in
-    none cs text_is front.1 (front.0 ++ rest) (e ∙ ap (λ s. s ++ rest) front.2 ∙ append_assoc front.1 front.0 rest) front.3
 
 module _ (text behind : Text) (namespace : TextReads (BeginsWithShape IsPnameNs) text behind) where
   same_front : (xs rest : Characters) → namespace.text_characters ≡ xs ++ rest → IsPnameNs xs → (namespace.reads.front ≡ xs) × (namespace.rest_characters ≡ rest)
@@ -167,7 +153,7 @@ module _ (text behind : Text) (namespace : TextReads (BeginsWithShape IsPnameNs)
         rest_characters = at.0;
         text_is = namespace.text_is;
         rest_is = at.1;
-        begins = record {
+        reads = record {
           spelled = namespace.reads.front ++ at.2.front;
           splits = namespace.reads.splits ∙ ap (λ r. namespace.reads.front ++ r) at.2.splits ∙ sym (append_assoc namespace.reads.front at.2.front at.0);
           fits = record { namespace = namespace.reads.front; local = at.2.front; spelling = refl; is_namespace = namespace.reads.fits; is_local = at.2.fits };
@@ -187,19 +173,14 @@ module _ (text behind : Text) (namespace : TextReads (BeginsWithShape IsPnameNs)
       }
 
   pub local_none : TextReadsNone (BeginsWithNoShape (IsPart Local)) behind → TextBeginsWithLongest NameShapes text PnameNs behind
-  local_none none = record {
-    text_characters = namespace.text_characters;
-    rest_characters = namespace.rest_characters;
-    text_is = namespace.text_is;
-    rest_is = namespace.rest_is;
-    begins = record {
-      spelled = namespace.reads.front;
-      splits = namespace.reads.splits;
-      fits = namespace.reads.fits;
-      longest = λ kind others other_rest e is.
-          elim (name_is kind others is) [
-            | inl ns ↦ omega (arith, ap length (same_front others other_rest e ns).0)
-            | inr ln ↦ absurd (none namespace.rest_characters namespace.rest_is ln.local other_rest (same_local others other_rest e ln).1 ln.is_local)
-          ];
-    };
-  }
+  local_none none =
+      reads_then namespace (record {
+        spelled = namespace.reads.front;
+        splits = namespace.reads.splits;
+        fits = namespace.reads.fits;
+        longest = λ kind others other_rest e is.
+            elim (name_is kind others is) [
+              | inl ns ↦ omega (arith, ap length (same_front others other_rest e ns).0)
+              | inr ln ↦ absurd (none namespace.rest_characters namespace.rest_is ln.local other_rest (same_local others other_rest e ln).1 ln.is_local)
+            ];
+      })

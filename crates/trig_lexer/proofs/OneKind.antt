@@ -5,7 +5,7 @@ use Rattle.std.specs.Char.{is_ascii_digit, to_ascii_lowercase}
 use Rattle.std.specs.List.{concat, list_any}
 use Rattle.std.specs.Str.{bytes_eq}
 use Rattle.std.proofs.Math.Bool.{or-true}
-use Rattle.std.proofs.lemmas.Bool.{cases_Bool}
+use Rattle.std.proofs.lemmas.Bool.{cases_Bool, and_parts}
 use Rattle.std.proofs.lemmas.Bool.Decides.{nat_tests}
 use Rattle.std.proofs.lemmas.List.{append_assoc, append-nil, length-append}
 use Rattle.std.proofs.lemmas.List.Folds.{list_any-append, list_any_none}
@@ -58,10 +58,6 @@ class_of c = class_in fronts c
 abbrev class : Characters → Class
 class [] = Lettered
 class (c ∷ cs) = class_of c
-
-class_front : (xs ys : Characters) → 0 < length xs → class (xs ++ ys) ≡ class xs
-class_front [] ys some = absurd (omega arith)
-class_front (x ∷ xs) ys some = refl
 
 -- ---- by the other characters
 
@@ -160,14 +156,6 @@ abbrev is_apart : ℕ → ℕ → Rows → Bool
 is_apart low high [] = true
 is_apart low high (r ∷ rs) = (nat_lt high r.0 || nat_lt r.1 low) && is_apart low high rs
 
-both_left : (a b : Bool) → (a && b) ≡ true → a ≡ true
-both_left false b h = h
-both_left true b h = refl
-
-both_right : (a b : Bool) → (a && b) ≡ true → b ≡ true
-both_right false b h = cc
-both_right true b h = h
-
 one_apart : (low high first last c : ℕ) → (nat_lt high first || nat_lt last low) ≡ true → (nat_le first c && nat_le c last) ≡ true → (nat_le low c && nat_le c high) ≡ false
 one_apart low high first last c h i = grind (arith, nat_tests)
 
@@ -175,8 +163,8 @@ apart : (low high : ℕ) (rows : Rows) (c : ℕ) → is_apart low high rows ≡ 
 apart low high [] c h i = cc
 apart low high (r ∷ rs) c h i =
     elim (cases_Bool (row_holds r c)) as (λ _. (nat_le low c && nat_le c high) ≡ false) [
-      | inl here ↦ one_apart low high r.0 r.1 c (both_left (nat_lt high r.0 || nat_lt r.1 low) (is_apart low high rs) h) here
-      | inr there ↦ apart low high rs c (both_right (nat_lt high r.0 || nat_lt r.1 low) (is_apart low high rs) h) (sym (ap (λ b. b || is_in rs c) there) ∙ i)
+      | inl here ↦ one_apart low high r.0 r.1 c ((and_parts (nat_lt high r.0 || nat_lt r.1 low) (is_apart low high rs) h).0) here
+      | inr there ↦ apart low high rs c ((and_parts (nat_lt high r.0 || nat_lt r.1 low) (is_apart low high rs) h).1) (sym (ap (λ b. b || is_in rs c) there) ∙ i)
     ]
 
 abbrev are_apart : List (ℕ × ℕ × Class) → Bool
@@ -186,8 +174,8 @@ are_apart (f ∷ fs) = is_apart f.0 f.1 pn_chars_base && are_apart fs
 base_class_in : (fs : List (ℕ × ℕ × Class)) (c : ℕ) → are_apart fs ≡ true → is_in pn_chars_base c ≡ true → class_in fs c ≡ Lettered
 base_class_in [] c h i = refl
 base_class_in (f ∷ fs) c h i =
-    ap (λ b. if b then f.2 else class_in fs c) (apart f.0 f.1 pn_chars_base c (both_left (is_apart f.0 f.1 pn_chars_base) (are_apart fs) h) i)
-    ∙ base_class_in fs c (both_right (is_apart f.0 f.1 pn_chars_base) (are_apart fs) h) i
+    ap (λ b. if b then f.2 else class_in fs c) (apart f.0 f.1 pn_chars_base c ((and_parts (is_apart f.0 f.1 pn_chars_base) (are_apart fs) h).0) i)
+    ∙ base_class_in fs c ((and_parts (is_apart f.0 f.1 pn_chars_base) (are_apart fs) h).1) i
 
 base_class : (c : ℕ) → is_in pn_chars_base c ≡ true → class_of c ≡ Lettered
 base_class c i = base_class_in fronts c refl i
@@ -250,7 +238,8 @@ tag_told false s x =
 -- ---- numbers
 
 digit_class : (c : ℕ) → is_ascii_digit c ≡ true → class_of c ≡ Numeric
-digit_class c h = ap (λ b. if b then Numeric else class_in ((46, 46, Numeric) ∷ (43, 43, Numeric) ∷ (45, 45, Numeric) ∷ (64, 64, Marked) ∷ (91, 91, Bracketed) ∷ (59, 59, Only Semicolon) ∷ (44, 44, Only Comma)
+digit_class c h =
+    ap (λ b. if b then Numeric else class_in ((46, 46, Numeric) ∷ (43, 43, Numeric) ∷ (45, 45, Numeric) ∷ (64, 64, Marked) ∷ (91, 91, Bracketed) ∷ (59, 59, Only Semicolon) ∷ (44, 44, Only Comma)
     ∷ (94, 94, Only Carets) ∷ (123, 123, Only LeftBrace) ∷ (125, 125, Only RightBrace) ∷ (93, 93, Only RightBracket) ∷ (40, 40, Only LeftParen) ∷ (41, 41, Only RightParen)
     ∷ (60, 60, Only IriRef) ∷ (95, 95, Only BlankLabel) ∷ (34, 34, Only Quoted) ∷ (39, 39, Only Quoted) ∷ []) c) h
 
@@ -321,7 +310,8 @@ decimal_told after_string s x =
     (ap (λ b. numeric_kind b all) (behind_sign is_letter x.sign x.unsigned x.is_sign refl refl ∙ ap (list_any is_letter) f.spelling ∙ list_any-append is_letter f.whole (46 ∷ f.fraction)
     ∙ (λ i. no_digits is_letter digit_no_letter f.whole f.are_whole i || no_digits is_letter digit_no_letter f.fraction f.are_fraction.0 i))
     ∙ ap (λ b. plain_kind b all) (behind_sign is_dot x.sign x.unsigned x.is_sign refl refl ∙ ap (list_any is_dot) f.spelling ∙ any_back is_dot f.whole (46 ∷ f.fraction) refl)
-    ∙ ap dotted_kind (behind_sign is_ascii_digit x.sign x.unsigned x.is_sign refl refl ∙ ap (list_any is_ascii_digit) f.spelling ∙ any_back is_ascii_digit f.whole (46 ∷ f.fraction) (any_digit f.fraction f.are_fraction)))
+    ∙ ap dotted_kind (behind_sign is_ascii_digit x.sign x.unsigned x.is_sign refl refl ∙ ap (list_any is_ascii_digit) f.spelling
+    ∙ any_back is_ascii_digit f.whole (46 ∷ f.fraction) (any_digit f.fraction f.are_fraction)))
 
 letter_is : (c : ℕ) → IsExponentLetter c → is_letter c ≡ true
 letter_is c (inl e) = ap is_letter e
@@ -331,7 +321,8 @@ double_told : (after_string : Bool) (s : Characters) → IsSigned HasExponent s 
 double_told after_string s x =
     let all = x.sign ++ x.unsigned in
     let f = x.fits in
-    let letter : list_any is_letter f.exponent ≡ true = ap (list_any is_letter) f.is_exponent.spelling ∙ ap (λ b. b || list_any is_letter f.is_exponent.power) (letter_is f.is_exponent.letter f.is_exponent.letter_is) in
+    let letter : list_any is_letter f.exponent ≡ true = ap (list_any is_letter) f.is_exponent.spelling
+    ∙ ap (λ b. b || list_any is_letter f.is_exponent.power) (letter_is f.is_exponent.letter f.is_exponent.letter_is) in
     ap (told after_string) x.spelling
     ∙ told_by after_string all Numeric Double (sign_class x.sign x.unsigned x.is_sign (exponent_class x.unsigned f))
     (ap (λ b. numeric_kind b all) (behind_sign is_letter x.sign x.unsigned x.is_sign refl refl ∙ ap (list_any is_letter) f.spelling ∙ any_back is_letter f.mantissa f.exponent letter))

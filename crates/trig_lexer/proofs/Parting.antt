@@ -1,10 +1,11 @@
 -- How far a part of a name goes.
 use Rattle.std.proofs.Common.{◌≡◌, ◌≢◌, ◌≤◌, List, [], ◌∷◌, ◌++◌, All, length, refl, sym, ap, subst, ◌∙◌, arith, ◌⊎◌, inl, inr}
+use Rattle.std.proofs.lemmas.List.Folds.{concat-append}
 use Rattle.std.specs.Prelude.{encode_utf8_all}
 use Rattle.std.specs.List.{concat}
 use Rattle.std.specs.Str.{IsUtf8}
 use Rattle.std.proofs.lemmas.List.{append_assoc, append-nil, length-append}
-use Rattle.std.proofs.lemmas.List.Elements.{All-push}
+use Rattle.std.proofs.lemmas.List.Elements.{All-push, All-append}
 use Rattle.rdf_terms.specs.Lists.{Text}
 use Rattle.terminals.specs.Terminal.{Characters}
 use Rattle.terminals.proofs.Marks.{encodes_ascii_front}
@@ -13,7 +14,7 @@ use Rattle.trig_lexer.specs.declared.parts.Place.TheVariants.{First, Later}
 use Rattle.trig_lexer.specs.Fronts.{BeginsWithShape, BeginsWithNoShape, BeginsWithLongestShape, TextReads, TextReadsNone}
 use Rattle.trig_lexer.specs.Names.{IsPiece, GoesOnAsPart, IsPart}
 use Rattle.trig_lexer.proofs.Texts.{step_mark, reads_at}
-use Rattle.trig_lexer.proofs.Pieces.{IsInner, same_first, concat-append, all_parts, all_parts_left, pieces_front, ends_before_dots}
+use Rattle.trig_lexer.proofs.Pieces.{IsInner, same_first, all_parts_left, pieces_front, ends_before_dots}
 
 -- pieces, the last of which may end a part, then dots, and what is left
 pub record Parted (part : Part) (text end rest : Text) : Type 0 where
@@ -62,7 +63,7 @@ parted_piece part text end rest next so x =
           ∙ ap (λ f. f ++ (at.2.front ++ at.0)) (sym (concat-append so.pieces so.dots)) ∙ sym (concat-push (so.pieces ++ so.dots) at.2.front at.0));
       end_is = at.1;
       rest_is = at.1;
-      all = All-push (IsInner part) (so.pieces ++ so.dots) at.2.front (all_parts (IsInner part) so.pieces so.dots so.all (dots_inner part so.dots so.all_dots)) (inl at.2.fits);
+      all = All-push (IsInner part) (so.pieces ++ so.dots) at.2.front (All-append (IsInner part) so.pieces so.dots so.all (dots_inner part so.dots so.all_dots)) (inl at.2.fits);
       all_dots = all_none (λ p. p ≡ 46 ∷ []);
       ends = inr (so.pieces ++ so.dots, at.2.front, refl, at.2.fits);
     }
@@ -95,7 +96,13 @@ module _ (part : Part) (text end rest : Text) (so : Parted part text end rest) (
       → GoesOnAsPart part (concat pieces)
   goes_on pieces all (inl nothing) = inl (ap concat nothing)
   goes_on pieces all (inr (inner, last, e, ends)) =
-      inr (inner, last, ap concat e ∙ concat-append inner (last ∷ []) ∙ ap (λ s. concat inner ++ s) (append-nil last), all_parts_left (IsInner part) inner (last ∷ []) (subst (All (IsInner part)) e all), ends)
+      inr (
+        inner,
+        last,
+        ap concat e ∙ concat-append inner (last ∷ []) ∙ ap (λ s. concat inner ++ s) (append-nil last),
+        all_parts_left (IsInner part) inner (last ∷ []) (subst (All (IsInner part)) e all),
+        ends,
+      )
 
   longest : (other other_rest : Characters) → concat so.pieces ++ (concat so.dots ++ so.behind) ≡ other ++ other_rest → GoesOnAsPart part other → length other ≤ length (concat so.pieces)
   longest other other_rest e (inl nothing) = omega (arith, ap length nothing)
@@ -104,7 +111,7 @@ module _ (part : Part) (text end rest : Text) (so : Parted part text end rest) (
       let fronts : concat (so.pieces ++ so.dots) ++ so.behind ≡ concat (inner ++ last ∷ []) ++ other_rest =
       ap (λ f. f ++ so.behind) (concat-append so.pieces so.dots) ∙ append_assoc (concat so.pieces) (concat so.dots) so.behind ∙ e ∙ ap (λ o. o ++ other_rest) (sym whole) in
       let split = pieces_front part (so.pieces ++ so.dots) (inner ++ last ∷ []) so.behind other_rest fronts
-      (all_parts (IsInner part) so.pieces so.dots so.all (dots_inner part so.dots so.all_dots)) (All-push (IsInner part) inner last all (inl ends)) stops in
+      (All-append (IsInner part) so.pieces so.dots so.all (dots_inner part so.dots so.all_dots)) (All-push (IsInner part) inner last all (inl ends)) stops in
       let within = ends_before_dots part so.pieces so.dots inner split.0 last split.1 so.all_dots ends in
       omega (arith, ap length whole)
 
@@ -140,7 +147,3 @@ module _ (part : Part) (text more rest : Text) (first : TextReads (BeginsWithSha
               omega (arith, ap length is.spelling, length-append is.first is.more, length-append first.reads.front at.2.front, ap length same.0);
         };
       }
-
-pub part_none : (part : Part) (text : Text) → TextReadsNone (BeginsWithNoShape (IsPiece part First)) text → TextReadsNone (BeginsWithNoShape (IsPart part)) text
-part_none part text none cs text_is front rest e is =
-    none cs text_is is.first (is.more ++ rest) (e ∙ ap (λ s. s ++ rest) is.spelling ∙ append_assoc is.first is.more rest) is.begins

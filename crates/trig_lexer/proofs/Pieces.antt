@@ -99,15 +99,6 @@ piece_no_dot part piece (inr escape) dot =
 
 -- ---- pieces one behind the other
 
-pub concat-append : (xs ys : List Characters) → concat (xs ++ ys) ≡ concat xs ++ concat ys
-concat-append [] ys = refl
-concat-append (x ∷ xs) ys = ap (λ r. x ++ r) (concat-append xs ys) ∙ sym (append_assoc x (concat xs) (concat ys))
-
-pub all_parts : (P : Characters → Type 0) (xs ys : List Characters) → All P xs → All P ys → All P (xs ++ ys)
-all_parts P [] ys x y k d l = y k d l
-all_parts P (z ∷ xs) ys x y zero d l = x 0 d (omega arith)
-all_parts P (z ∷ xs) ys x y (suc k) d l = all_parts P xs ys (λ j e m. x (suc j) e (omega arith)) y k d (omega arith)
-
 pub all_parts_left : (P : Characters → Type 0) (xs ys : List Characters) → All P (xs ++ ys) → All P xs
 all_parts_left P [] ys h k d l = absurd (omega arith)
 all_parts_left P (x ∷ xs) ys h zero d l = h 0 d (omega arith)

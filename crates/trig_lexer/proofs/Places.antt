@@ -17,6 +17,7 @@ use Rattle.trig_lexer.specs.WhiteSpace.{AreGapsThen, IsSkipped}
 use Rattle.trig_lexer.specs.WhiteSpace.AreGapsThen.{no_gap, one_gap}
 use Rattle.trig_lexer.specs.Tokens.{IsToken, IsNext, IsTokenStart, IsTokenAt, HasNoTokenAt}
 use Rattle.trig_lexer.specs.Groups.{GroupShapes}
+use Rattle.trig_lexer.proofs.Texts.{reads_then}
 use Rattle.trig_lexer.proofs.WhiteSpace.{gap_front}
 use Rattle.trig_lexer.proofs.AllKinds.{finds_token}
 
@@ -30,13 +31,8 @@ longest_is_next after_string kind (c ∷ more) rest some x = x
 next_from : (after_string : Bool) (text : Text) (found : Option Found) → text ≢ [] → Finds (IsToken after_string) text found
     → IfSome found (λ x. TextReads (IsNext after_string x.kind) text x.rest.now)
 next_from after_string text None some p = tt
-next_from after_string text (Some x) some p = record {
-  text_characters = p.text_characters;
-  rest_characters = p.rest_characters;
-  text_is = p.text_is;
-  rest_is = p.rest_is;
-  reads = longest_is_next after_string x.kind p.text_characters p.rest_characters (λ e. some (p.text_is ∙ ap encode_utf8_all e)) p.begins;
-}
+next_from after_string text (Some x) some p =
+    reads_then p (longest_is_next after_string x.kind p.text_characters p.rest_characters (λ e. some (p.text_is ∙ ap encode_utf8_all e)) p.reads)
 
 none_from : (after_string : Bool) (text : Text) (found : Option Found) → Finds (IsToken after_string) text found → IfNone found (TextBeginsWithNoToken (IsToken after_string) text)
 none_from after_string text None p = p

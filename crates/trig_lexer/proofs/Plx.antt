@@ -1,5 +1,5 @@
 -- The escapes of a local part.
-use Rattle.std.proofs.Common.{◌≡◌, ◌≢◌, ℕ, ◌<◌, true, false, [], ◌∷◌, ◌++◌, length, refl, sym, ap, ◌∙◌, arith, inl, inr, true≢false}
+use Rattle.std.proofs.Common.{◌≡◌, ℕ, ◌<◌, true, false, [], ◌∷◌, ◌++◌, length, refl, sym, ap, ◌∙◌, arith, inl, inr, true≢false}
 use Rattle.std.specs.Prelude.{encode_utf8, encode_utf8_all}
 use Rattle.std.specs.Str.{IsUtf8}
 use Rattle.std.proofs.lemmas.List.{length-append}
@@ -9,7 +9,6 @@ use Rattle.char_tables.specs.Rows.{is_in}
 use Rattle.char_tables.specs.Classes.{hex}
 use Rattle.terminals.specs.Terminal.{Characters}
 use Rattle.terminals.proofs.Escaping.{same_head, same_tail}
-use Rattle.terminals.proofs.Marks.{encodes_ascii_front}
 use Rattle.terminals.proofs.Labelling.{rest_smaller}
 use Rattle.trig_lexer.specs.declared.parts.Part.{Part}
 use Rattle.trig_lexer.specs.declared.parts.Part.TheVariants.{Prefix, Local}
@@ -18,26 +17,12 @@ use Rattle.trig_lexer.specs.Fronts.{BeginsWithShape, BeginsWithNoShape, TextRead
 use Rattle.trig_lexer.specs.Names.{escaped_in_local, IsPercent, IsLocalEscape, takes, IsEscapeIn, IsPiece}
 use Rattle.trig_lexer.proofs.Texts.{step_char, step_mark, step_end, reads_then}
 
--- no front has a shape that begins with a mark, where the mark does not stand there
-pub mark_none : (shape : Characters → Type 0) (mark : ℕ) (text : Text) → mark < 128 → ((front : Characters) → shape front → (more : Characters) × (front ≡ mark ∷ more))
-    → ((rest : Text) → text ≢ mark ∷ rest) → TextReadsNone (BeginsWithNoShape shape) text
-mark_none shape mark text ascii marked none cs is front rest e fits =
-    let more = marked front fits in
-    none (encode_utf8_all (more.0 ++ rest)) (is ∙ ap encode_utf8_all (e ∙ ap (λ f. f ++ rest) more.1) ∙ encodes_ascii_front mark (more.0 ++ rest) ascii)
-
-pub percent_none_mark : (text : Text) → ((rest : Text) → text ≢ 37 ∷ rest) → TextReadsNone (BeginsWithNoShape IsPercent) text
-percent_none_mark text none = mark_none IsPercent 37 text (omega arith) (λ front is. (is.first ∷ is.second ∷ [], is.spelling)) none
-
 module _ (text behind : Text) (mark : text ≡ 37 ∷ behind) where
   percent_read : (cs front more : Characters) → text ≡ encode_utf8_all cs → cs ≡ front ++ more → (is : IsPercent front) → behind ≡ encode_utf8_all (is.first ∷ is.second ∷ more)
   percent_read cs front more text_is e is =
       let step = step_mark cs text behind 37 (omega arith) text_is mark in
       let whole : 37 ∷ step.0 ≡ 37 ∷ is.first ∷ is.second ∷ more = sym step.1 ∙ e ∙ ap (λ f. f ++ more) is.spelling in
       step.2 ∙ ap encode_utf8_all (same_tail 37 37 step.0 (is.first ∷ is.second ∷ more) whole)
-
-  pub percent_none_first : behind ≡ [] → TextReadsNone (BeginsWithNoShape IsPercent) text
-  percent_none_first nothing cs text_is front more e is =
-      absurd (omega (arith, ap length (step_end (is.first ∷ is.second ∷ more) behind (percent_read cs front more text_is e is) nothing)))
 
   module _ (first : ℕ) (under : Text) (one : behind ≡ encode_utf8 first ++ under) where
     second_read : (cs front more : Characters) → text ≡ encode_utf8_all cs → cs ≡ front ++ more → (is : IsPercent front)
@@ -77,18 +62,12 @@ module _ (text behind : Text) (mark : text ≡ 37 ∷ behind) where
             };
           }
 
-pub escape_none_mark : (text : Text) → ((rest : Text) → text ≢ 92 ∷ rest) → TextReadsNone (BeginsWithNoShape IsLocalEscape) text
-escape_none_mark text none = mark_none IsLocalEscape 92 text (omega arith) (λ front is. (is.c ∷ [], is.spelling)) none
-
 module _ (text behind : Text) (mark : text ≡ 92 ∷ behind) where
   escape_read : (cs front more : Characters) → text ≡ encode_utf8_all cs → cs ≡ front ++ more → (is : IsLocalEscape front) → behind ≡ encode_utf8_all (is.c ∷ more)
   escape_read cs front more text_is e is =
       let step = step_mark cs text behind 92 (omega arith) text_is mark in
       let whole : 92 ∷ step.0 ≡ 92 ∷ is.c ∷ more = sym step.1 ∙ e ∙ ap (λ f. f ++ more) is.spelling in
       step.2 ∙ ap encode_utf8_all (same_tail 92 92 step.0 (is.c ∷ more) whole)
-
-  pub escape_none_end : behind ≡ [] → TextReadsNone (BeginsWithNoShape IsLocalEscape) text
-  escape_none_end nothing cs text_is front more e is = absurd (omega (arith, ap length (step_end (is.c ∷ more) behind (escape_read cs front more text_is e is) nothing)))
 
   module _ (c : ℕ) (rest : Text) (one : behind ≡ encode_utf8 c ++ rest) where
     pub escape_none_other : is_in escaped_in_local c ≡ false → TextReadsNone (BeginsWithNoShape IsLocalEscape) text
@@ -107,12 +86,6 @@ module _ (text behind : Text) (mark : text ≡ 92 ∷ behind) where
           rest_is = b.2;
           reads = record { front = 92 ∷ c ∷ []; splits = a.1 ∙ ap (λ s. 92 ∷ s) b.1; fits = record { c = c; spelling = refl; escaped = escaped } };
         }
-
--- a shape is read where a narrower one is
-pub shape_then : (shape other : Characters → Type 0) → ((front : Characters) → shape front → other front) → (text rest : Text)
-    → TextReads (BeginsWithShape shape) text rest → TextReads (BeginsWithShape other) text rest
-shape_then shape other f text rest x =
-    reads_then (BeginsWithShape shape) (BeginsWithShape other) (λ cs more b. record { front = b.front; splits = b.splits; fits = f b.front b.fits }) text rest x
 
 -- ---- a piece of a part
 
@@ -151,7 +124,7 @@ module _ (part : Part) (place : Place) (text : Text) where
         true≢false (sym taken ∙ ap (takes part place) (sym (same_head c d step.0 more whole)) ∙ none)
 
   pub piece_from_escape : (rest : Text) → TextReads (BeginsWithShape (IsEscapeIn part)) text rest → TextReads (BeginsWithShape (IsPiece part place)) text rest
-  piece_from_escape rest x = shape_then (IsEscapeIn part) (IsPiece part place) (λ front escape. inr escape) text rest x
+  piece_from_escape rest x = reads_then x (record { front = x.reads.front; splits = x.reads.splits; fits = inr x.reads.fits })
 
   pub piece_smaller : (rest : Text) → TextReads (BeginsWithShape (IsPiece part place)) text rest → length rest < length text
   piece_smaller rest x =

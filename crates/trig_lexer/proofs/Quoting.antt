@@ -17,6 +17,7 @@ use Rattle.trig_lexer.specs.Longest.{TextBeginsWithLongest, TextBeginsWithNoToke
 use Rattle.trig_lexer.specs.Fronts.{BeginsWithShape, BeginsWithNoShape, BeginsWithLongestShape, TextReads, TextReadsNone}
 use Rattle.trig_lexer.specs.Strings.{three_marks, IsLongString, IsQuotedBy, IsQuoted, QuotedShapes}
 use Rattle.trig_lexer.proofs.LongPieces.{short_body, one_no_mark, long_splits, same_long}
+use Rattle.trig_lexer.proofs.Texts.{reads_then, terminal_then}
 
 -- ---- strings with one mark
 
@@ -38,13 +39,7 @@ short_at_three quote other other_rest rest value e is = by value is.spells
         (sym (behind ∙ ap (λ s. s ++ quote_mark quote ∷ other_rest) f ∙ append_assoc first more (quote_mark quote ∷ other_rest))))
 
 pub long_found : (quote : Quote) (text rest : Text) → TextReads (BeginsWithShape (IsLongString quote)) text rest → TextReads (BeginsWithLongestShape (IsQuotedBy quote)) text rest
-long_found quote text rest x = record {
-  text_characters = x.text_characters;
-  rest_characters = x.rest_characters;
-  text_is = x.text_is;
-  rest_is = x.rest_is;
-  reads = record { front = x.reads.front; splits = x.reads.splits; fits = inr x.reads.fits; longest = longest };
-}
+long_found quote text rest x = reads_then x (record { front = x.reads.front; splits = x.reads.splits; fits = inr x.reads.fits; longest = longest })
   where
     longest : (other other_rest : Characters) → x.text_characters ≡ other ++ other_rest → IsQuotedBy quote other → length other ≤ length x.reads.front
     longest other other_rest e (inr long) =
@@ -59,13 +54,9 @@ long_found quote text rest x = record {
 
 pub short_found : (quote : Quote) (text rest : Text) (spelling : Spelling) → TextReadsNone (BeginsWithNoShape (IsLongString quote)) text → ReadsSpelling (ShortString quote) text spelling rest
     → TextReads (BeginsWithLongestShape (IsQuotedBy quote)) text rest
-short_found quote text rest spelling no_long x = record {
-  text_characters = x.begins.text_characters;
-  rest_characters = x.begins.rest_characters;
-  text_is = x.begins.text_is;
-  rest_is = x.begins.rest_is;
-  reads = record { front = x.begins.begins.spelled; splits = x.begins.begins.splits; fits = inl (x.begins.value_characters, x.begins.begins.fits); longest = longest };
-}
+short_found quote text rest spelling no_long x =
+    terminal_then x.begins
+    (record { front = x.begins.begins.spelled; splits = x.begins.begins.splits; fits = inl (x.begins.value_characters, x.begins.begins.fits); longest = longest })
   where
     longest : (other other_rest : Characters) → x.begins.text_characters ≡ other ++ other_rest → IsQuotedBy quote other → length other ≤ length x.begins.begins.spelled
     longest other other_rest e (inr long) = absurd (no_long x.begins.text_characters x.begins.text_is other other_rest e long)
@@ -86,25 +77,20 @@ mark_front : (quote : Quote) (xs : Characters) → IsQuotedBy quote xs → (more
 mark_front quote xs (inl (value, short)) = (short.inner ++ quote_mark quote ∷ [], short.marks)
 mark_front quote xs (inr long) = (quote_mark quote ∷ quote_mark quote ∷ (concat long.pieces ++ three_marks quote), long.spelling)
 
-same_quote : (p q : Quote) → quote_mark p ≡ quote_mark q → p ≡ q
+pub same_quote : (p q : Quote) → quote_mark p ≡ quote_mark q → p ≡ q
 same_quote Double Double e = refl
 same_quote Double Single e = absurd (omega arith)
 same_quote Single Double e = absurd (omega arith)
 same_quote Single Single e = refl
 
 pub quoted_found : (quote : Quote) (text rest : Text) → TextReads (BeginsWithLongestShape (IsQuotedBy quote)) text rest → TextBeginsWithLongest QuotedShapes text Quoted rest
-quoted_found quote text rest x = record {
-  text_characters = x.text_characters;
-  rest_characters = x.rest_characters;
-  text_is = x.text_is;
-  rest_is = x.rest_is;
-  begins = record {
-    spelled = x.reads.front;
-    splits = x.reads.splits;
-    fits = (quote, x.reads.fits);
-    longest = λ kind others other_rest e is. longest others other_rest e (quoted_is kind others is);
-  };
-}
+quoted_found quote text rest x =
+    reads_then x (record {
+      spelled = x.reads.front;
+      splits = x.reads.splits;
+      fits = (quote, x.reads.fits);
+      longest = λ kind others other_rest e is. longest others other_rest e (quoted_is kind others is);
+    })
   where
     longest : (others other_rest : Characters) → x.text_characters ≡ others ++ other_rest → IsQuoted others → length others ≤ length x.reads.front
     longest others other_rest e (other, is) =

@@ -1,5 +1,5 @@
 -- Behind a sign.
-use Rattle.std.proofs.Common.{◌≡◌, ◌≢◌, ℕ, ◌+◌, List, [], ◌∷◌, ◌++◌, refl, sym, ap, subst, ◌∙◌, arith, ◌⊎◌, inl, inr, length}
+use Rattle.std.proofs.Common.{◌≡◌, ℕ, ◌+◌, List, [], ◌∷◌, ◌++◌, refl, sym, ap, subst, ◌∙◌, arith, ◌⊎◌, inl, inr, length}
 use Rattle.std.specs.Str.{IsAscii}
 use Rattle.std.proofs.lemmas.List.{append_assoc, length-append}
 use Rattle.std.proofs.lemmas.Str.{IsAscii-append}
@@ -22,13 +22,6 @@ sign_found text rest mark e is =
     sign : IsSignMark mark → IsSign (mark ∷ [])
     sign (inl plus) = inr (inl (ap (λ m. m ∷ []) plus))
     sign (inr minus) = inr (inr (ap (λ m. m ∷ []) minus))
-
-pub sign_none : (text : List ℕ) → ((rest : List ℕ) → text ≢ 43 ∷ rest) → ((rest : List ℕ) → text ≢ 45 ∷ rest) → BeginsWithSign text text
-sign_none text no_plus no_minus = record { sign = []; splits = refl; is_sign = inl refl; ends = ends }
-  where
-    ends : (c : ℕ) (more : List ℕ) → text ≡ c ∷ more → ◌≡◌ {A = List ℕ} [] [] → ¬ (IsSignMark c)
-    ends c more e h (inl plus) = no_plus more (e ∙ ap (λ d. d ∷ more) plus)
-    ends c more e h (inr minus) = no_minus more (e ∙ ap (λ d. d ∷ more) minus)
 
 -- another sign at the front, behind which something unsigned stands, is the same
 pub sign_same : (text rest sign unsigned : List ℕ) (so : BeginsWithSign text rest) → text ≡ sign ++ unsigned → IsSign sign → BeginsUnsigned unsigned

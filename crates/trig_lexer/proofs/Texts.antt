@@ -5,7 +5,7 @@ use Rattle.std.specs.Str.{IsUtf8, all_scalars}
 use Rattle.std.proofs.lemmas.List.{length-append}
 use Rattle.std.proofs.lemmas.Str.{cons_from_encodes, encodes_same, length-encode, len_utf8_bounds}
 use Rattle.rdf_terms.specs.Lists.{Text}
-use Rattle.terminals.specs.Terminal.{Characters}
+use Rattle.terminals.specs.Terminal.{Characters, TextBeginsWith}
 use Rattle.terminals.proofs.Running.{all_scalars-append_right}
 use Rattle.terminals.proofs.Marks.{ascii_front}
 use Rattle.trig_lexer.specs.Fronts.{BeginsWithShape, TextReads}
@@ -27,14 +27,13 @@ pub reads_at : (reads : Characters → Characters → Type 0) (text rest : Text)
 reads_at reads text rest cs x is =
     (x.rest_characters, x.rest_is, subst (λ t. reads t x.rest_characters) (encodes_same x.text_characters cs (sym x.text_is ∙ is)) x.reads)
 
-pub reads_then : (reads other : Characters → Characters → Type 0) → ((cs more : Characters) → reads cs more → other cs more) → (text rest : Text) → TextReads reads text rest → TextReads other text rest
-reads_then reads other f text rest x = record {
-  text_characters = x.text_characters;
-  rest_characters = x.rest_characters;
-  text_is = x.text_is;
-  rest_is = x.rest_is;
-  reads = f x.text_characters x.rest_characters x.reads;
-}
+-- what is read of a text in one way is read in another too, where its characters are
+pub reads_then : {reads other : Characters → Characters → Type 0} {text rest : Text} (x : TextReads reads text rest) → other x.text_characters x.rest_characters → TextReads other text rest
+reads_then x is = record { text_characters = x.text_characters; rest_characters = x.rest_characters; text_is = x.text_is; rest_is = x.rest_is; reads = is }
+
+pub terminal_then : {terminal other : Characters → Characters → Type 0} {text value rest : Text} (x : TextBeginsWith terminal text value rest) → other x.text_characters x.rest_characters
+    → TextReads other text rest
+terminal_then x is = record { text_characters = x.text_characters; rest_characters = x.rest_characters; text_is = x.text_is; rest_is = x.rest_is; reads = is }
 
 -- the rest is UTF-8, and shorter where the front is not empty
 pub shape_utf8 : (shape : Characters → Type 0) (text rest : Text) → TextReads (BeginsWithShape shape) text rest → IsUtf8 text → IsUtf8 rest

@@ -5,7 +5,8 @@ use Rattle.terminals.proofs.Escaping.{same_head, same_tail}
 use Rattle.trig_lexer.specs.declared.kind.Kind.{Kind}
 use Rattle.trig_lexer.specs.declared.kind.Kind.TheVariants.{Integer, Decimal, Double}
 use Rattle.trig_lexer.specs.Longest.{BeginsWithLongest, BeginsWithNoToken}
-use Rattle.trig_lexer.specs.Numbers.{AreDigits, AreSomeDigits, IsFraction, IsMantissa, IsExponentLetter, IsExponent, HasExponent, UnsignedShapes, BeginsWithDigits, BeginsWithExponent, BeginsWithNoExponent}
+use Rattle.trig_lexer.specs.Fronts.{BeginsWithNoShape, BeginsWithLongestShape}
+use Rattle.trig_lexer.specs.Numbers.{AreDigits, AreSomeDigits, IsFraction, IsMantissa, IsExponentLetter, IsExponent, HasExponent, UnsignedShapes, BeginsWithDigits}
 use Rattle.trig_lexer.proofs.Digits.{digits_within, digits_same}
 use Rattle.trig_lexer.proofs.Exponents.{letter_no_digit}
 
@@ -66,9 +67,11 @@ module _ (text behind : List ℕ) (whole : BeginsWithDigits text behind) where
   -- what stands before an exponent
   mantissa_read : (mantissa : List ℕ) (letter : ℕ) (more : List ℕ) → IsExponentLetter letter → text ≡ mantissa ++ letter ∷ more → IsMantissa mantissa
       → ((behind ≡ letter ∷ more) × (length mantissa ≡ length whole.digits) × (0 < length whole.digits))
-      ⊎ ((fraction : List ℕ) × (behind ≡ 46 ∷ (fraction ++ letter ∷ more)) × AreDigits fraction × (length mantissa ≡ length whole.digits + (1 + length fraction)) × (0 < length whole.digits + length fraction))
+      ⊎ ((fraction : List ℕ) × (behind ≡ 46 ∷ (fraction ++ letter ∷ more)) × AreDigits fraction × (length mantissa ≡ length whole.digits + (1 + length fraction))
+      × (0 < length whole.digits + length fraction))
   mantissa_read mantissa letter more l e (inl (before, fraction, spelling, before_digits, fraction_digits)) =
-      let same = digits_same text behind before (fraction ++ letter ∷ more) 46 whole (e ∙ ap (λ s. s ++ letter ∷ more) spelling ∙ append_assoc before (46 ∷ fraction) (letter ∷ more)) before_digits.0 refl in
+      let same = digits_same text behind before (fraction ++ letter ∷ more) 46 whole (e ∙ ap (λ s. s ++ letter ∷ more) spelling
+      ∙ append_assoc before (46 ∷ fraction) (letter ∷ more)) before_digits.0 refl in
       let size = ap length spelling ∙ length-append before (46 ∷ fraction) in
       let count = ap length same.0 in
       let some = before_digits.1 in
@@ -140,19 +143,19 @@ module _ (text behind : List ℕ) (whole : BeginsWithDigits text behind) where
           | inr x ↦ absurd (omega (arith, whole_len, x.some))
         ]
 
-    pub double_unpointed : (rest : List ℕ) → length behind < length text → BeginsWithExponent behind rest → BeginsWithLongest UnsignedShapes text Double rest
+    pub double_unpointed : (rest : List ℕ) → length behind < length text → BeginsWithLongestShape IsExponent behind rest → BeginsWithLongest UnsignedShapes text Double rest
     double_unpointed rest some is = record {
-      spelled = whole.digits ++ is.exponent;
-      splits = whole.splits ∙ ap (λ b. whole.digits ++ b) is.splits ∙ sym (append_assoc whole.digits is.exponent rest);
-      fits = record { mantissa = whole.digits; exponent = is.exponent; spelling = refl; is_mantissa = inr (inr (whole.are_digits, omega (arith, whole_len))); is_exponent = is.fits };
+      spelled = whole.digits ++ is.front;
+      splits = whole.splits ∙ ap (λ b. whole.digits ++ b) is.splits ∙ sym (append_assoc whole.digits is.front rest);
+      fits = record { mantissa = whole.digits; exponent = is.front; spelling = refl; is_mantissa = inr (inr (whole.are_digits, omega (arith, whole_len))); is_exponent = is.fits };
       longest = λ kind other other_rest e fits.
           elim (unpointed_read kind other other_rest e fits) [
-            | inl x ↦ omega (arith, x.within, length-append whole.digits is.exponent)
-            | inr x ↦ omega (arith, x.size, is.longest x.exponent other_rest x.behind_is x.is_exponent, length-append whole.digits is.exponent)
+            | inl x ↦ omega (arith, x.within, length-append whole.digits is.front)
+            | inr x ↦ omega (arith, x.size, is.longest x.exponent other_rest x.behind_is x.is_exponent, length-append whole.digits is.front)
           ];
     }
 
-    pub integer_unpointed : length behind < length text → BeginsWithNoExponent behind → BeginsWithLongest UnsignedShapes text Integer behind
+    pub integer_unpointed : length behind < length text → BeginsWithNoShape IsExponent behind → BeginsWithLongest UnsignedShapes text Integer behind
     integer_unpointed some none = record {
       spelled = whole.digits;
       splits = whole.splits;
@@ -191,7 +194,8 @@ module _ (text behind : List ℕ) (whole : BeginsWithDigits text behind) where
         exponent : WholeExponent whole.digits behind other rest ⊎ FractionExponent whole.digits behind other rest → Whole whole.digits other ⊎ (PointRead other ⊎ ExponentRead other rest)
         exponent (inl x) = absurd (no_letter x.is_exponent.letter (x.is_exponent.power ++ rest) x.is_exponent.letter_is (x.behind_is ∙ ap (λ s. s ++ rest) x.is_exponent.spelling))
         exponent (inr x) =
-            let same = digits_same after_point end x.fraction x.more x.letter fraction (behind_point (x.fraction ++ x.letter ∷ x.more) x.behind_is) x.are_digits (letter_no_digit x.letter x.is_letter) in
+            let same = digits_same after_point end x.fraction x.more x.letter fraction (behind_point (x.fraction ++ x.letter ∷ x.more) x.behind_is) x.are_digits (letter_no_digit x.letter x.is_letter)
+            in
             let count = ap length same.0 in
             inr (inr (record { exponent = x.exponent; end_is = same.1 ∙ x.exponent_is; is_exponent = x.is_exponent; size = omega (arith, x.size); some = omega (arith, x.some) }))
 
@@ -215,9 +219,6 @@ module _ (text behind : List ℕ) (whole : BeginsWithDigits text behind) where
     point_len : length behind ≡ 1 + length after_point
     point_len = omega (arith, ap length point)
 
-    pub end_shorter : length end < length text
-    end_shorter = omega (arith, whole_len, point_len, fraction_len)
-
     pub none_pointed : length text ≡ length end + 1 → BeginsWithNoToken UnsignedShapes text
     none_pointed alone kind other rest e is =
         elim (pointed_read kind other rest e is) [
@@ -233,20 +234,20 @@ module _ (text behind : List ℕ) (whole : BeginsWithDigits text behind) where
         by [] all len = inr (inl (fraction.digits, refl, (fraction.are_digits, omega (arith, point_len, fraction_len))))
         by (d ∷ digits) all len = inl (d ∷ digits, fraction.digits, refl, (all, omega arith), fraction.are_digits)
 
-    pub double_pointed : (rest : List ℕ) → length text ≢ length end + 1 → BeginsWithExponent end rest → BeginsWithLongest UnsignedShapes text Double rest
+    pub double_pointed : (rest : List ℕ) → length text ≢ length end + 1 → BeginsWithLongestShape IsExponent end rest → BeginsWithLongest UnsignedShapes text Double rest
     double_pointed rest some is = record {
-      spelled = (whole.digits ++ 46 ∷ fraction.digits) ++ is.exponent;
-      splits = decimal_splits ∙ ap (λ b. (whole.digits ++ 46 ∷ fraction.digits) ++ b) is.splits ∙ sym (append_assoc (whole.digits ++ 46 ∷ fraction.digits) is.exponent rest);
-      fits = record { mantissa = whole.digits ++ 46 ∷ fraction.digits; exponent = is.exponent; spelling = refl; is_mantissa = mantissa_is some; is_exponent = is.fits };
+      spelled = (whole.digits ++ 46 ∷ fraction.digits) ++ is.front;
+      splits = decimal_splits ∙ ap (λ b. (whole.digits ++ 46 ∷ fraction.digits) ++ b) is.splits ∙ sym (append_assoc (whole.digits ++ 46 ∷ fraction.digits) is.front rest);
+      fits = record { mantissa = whole.digits ++ 46 ∷ fraction.digits; exponent = is.front; spelling = refl; is_mantissa = mantissa_is some; is_exponent = is.fits };
       longest = λ kind other other_rest e fits.
           elim (pointed_read kind other other_rest e fits) [
-            | inl x ↦ omega (arith, x.within, decimal_len, length-append (whole.digits ++ 46 ∷ fraction.digits) is.exponent)
-            | inr (inl x) ↦ omega (arith, x.within, decimal_len, length-append (whole.digits ++ 46 ∷ fraction.digits) is.exponent)
-            | inr (inr x) ↦ omega (arith, x.size, decimal_len, is.longest x.exponent other_rest x.end_is x.is_exponent, length-append (whole.digits ++ 46 ∷ fraction.digits) is.exponent)
+            | inl x ↦ omega (arith, x.within, decimal_len, length-append (whole.digits ++ 46 ∷ fraction.digits) is.front)
+            | inr (inl x) ↦ omega (arith, x.within, decimal_len, length-append (whole.digits ++ 46 ∷ fraction.digits) is.front)
+            | inr (inr x) ↦ omega (arith, x.size, decimal_len, is.longest x.exponent other_rest x.end_is x.is_exponent, length-append (whole.digits ++ 46 ∷ fraction.digits) is.front)
           ];
     }
 
-    pub decimal_pointed : length end < length after_point → BeginsWithNoExponent end → BeginsWithLongest UnsignedShapes text Decimal end
+    pub decimal_pointed : length end < length after_point → BeginsWithNoShape IsExponent end → BeginsWithLongest UnsignedShapes text Decimal end
     decimal_pointed some none = record {
       spelled = whole.digits ++ 46 ∷ fraction.digits;
       splits = decimal_splits;
@@ -259,7 +260,7 @@ module _ (text behind : List ℕ) (whole : BeginsWithDigits text behind) where
           ];
     }
 
-    pub integer_pointed : length text ≢ length end + 1 → length after_point ≤ length end → BeginsWithNoExponent end → BeginsWithLongest UnsignedShapes text Integer behind
+    pub integer_pointed : length text ≢ length end + 1 → length after_point ≤ length end → BeginsWithNoShape IsExponent end → BeginsWithLongest UnsignedShapes text Integer behind
     integer_pointed some no_fraction none = record {
       spelled = whole.digits;
       splits = whole.splits;

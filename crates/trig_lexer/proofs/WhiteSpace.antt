@@ -9,8 +9,8 @@ use Rattle.rdf_terms.specs.Lists.{Text}
 use Rattle.terminals.specs.Terminal.{Characters}
 use Rattle.terminals.proofs.Escaping.{same_head}
 use Rattle.terminals.proofs.Running.{all_scalars-append_right}
-use Rattle.trig_lexer.specs.WhiteSpace.{ends_line, is_white, IsAtLineEnd, IsLineThen, IsGapThen, BeginsWithNoGap, AreGapsThen, IsSkipped}
-use Rattle.trig_lexer.proofs.Texts.{step_char, step_end}
+use Rattle.trig_lexer.specs.WhiteSpace.{ends_line, is_white_space, IsAtLineEnd, IsLineThen, IsGapThen, BeginsWithNoGap, AreGapsThen, IsSkipped}
+use Rattle.trig_lexer.proofs.Texts.{step_char, step_end, reads_then}
 use Rattle.trig_lexer.specs.Fronts.{TextReads, TextReadsNone}
 use Rattle.trig_lexer.specs.WhiteSpace.AreGapsThen.{no_gap, one_gap}
 
@@ -57,7 +57,7 @@ line_ends_text text rest so nothing = line_done text rest so (subst IsAtLineEnd 
 
 -- ---- one gap
 
-pub white_gap : (text rest : Text) (c : ℕ) → text ≡ encode_utf8 c ++ rest → is_white c ≡ true → IsUtf8 rest → TextReads IsGapThen text rest
+pub white_gap : (text rest : Text) (c : ℕ) → text ≡ encode_utf8 c ++ rest → is_white_space c ≡ true → IsUtf8 rest → TextReads IsGapThen text rest
 white_gap text rest c first white utf8 = record {
   text_characters = c ∷ utf8.0;
   rest_characters = utf8.0;
@@ -85,11 +85,11 @@ no_gap_empty text nothing characters e rest (inr (more, splits, line)) =
     let whole : [] ≡ 35 ∷ more = sym none ∙ splits in
     cc
 
-pub no_gap_other : (text next : Text) (c : ℕ) → text ≡ encode_utf8 c ++ next → is_white c ≡ false → ¬ (c ≡ 35) → TextReadsNone BeginsWithNoGap text
+pub no_gap_other : (text next : Text) (c : ℕ) → text ≡ encode_utf8 c ++ next → is_white_space c ≡ false → ¬ (c ≡ 35) → TextReadsNone BeginsWithNoGap text
 no_gap_other text next c first dark no_mark characters e rest (inl (d, splits, white)) =
     let back = step_char characters text next c e first in
     let same : c ≡ d = same_head c d back.0 rest (sym back.1 ∙ splits) in
-    true≢false (sym white ∙ ap is_white (sym same) ∙ dark)
+    true≢false (sym white ∙ ap is_white_space (sym same) ∙ dark)
 no_gap_other text next c first dark no_mark characters e rest (inr (more, splits, line)) =
     let back = step_char characters text next c e first in
     no_mark (same_head c 35 back.0 more (sym back.1 ∙ splits))
@@ -116,13 +116,7 @@ gaps_more text rest next so one = record {
     same = encodes_same one.text_characters so.rest_characters (sym one.text_is ∙ so.rest_is)
 
 pub gaps_end : (text rest : Text) → TextReads AreGapsThen text rest → TextReadsNone BeginsWithNoGap rest → TextReads IsSkipped text rest
-gaps_end text rest so none = record {
-  text_characters = so.text_characters;
-  rest_characters = so.rest_characters;
-  text_is = so.text_is;
-  rest_is = so.rest_is;
-  reads = record { gaps = so.reads; ends = none so.rest_characters so.rest_is };
-}
+gaps_end text rest so none = reads_then so (record { gaps = so.reads; ends = none so.rest_characters so.rest_is })
 
 -- ---- a gap leaves less, and UTF-8
 

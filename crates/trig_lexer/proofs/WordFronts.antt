@@ -28,7 +28,7 @@ module _ (kind : Kind) (shape : Characters → Type 0) (n : ℕ) (has : HasLengt
     rest_characters = utf8.0;
     text_is = e ∙ (λ i. sym ascii i ++ sym utf8.1.1 i) ∙ sym (encodes-append front utf8.0);
     rest_is = sym utf8.1.1;
-    begins = record {
+    reads = record {
       spelled = front;
       splits = refl;
       fits = (refl, fits);
@@ -98,7 +98,7 @@ mark_found text rest c kind e utf8 is = record {
   rest_characters = utf8.0;
   text_is = e ∙ ap (λ r. encode_utf8 c ++ r) (sym utf8.1.1);
   rest_is = sym utf8.1.1;
-  begins = record {
+  reads = record {
     spelled = c ∷ [];
     splits = refl;
     fits = (c, refl, is);

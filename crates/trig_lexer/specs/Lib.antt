@@ -1,6 +1,6 @@
+pub mod Fronts
 pub mod Longest
 pub mod Longer
-pub mod Fronts
 pub mod WhiteSpace
 pub mod Words
 pub mod Numbers

@@ -15,7 +15,8 @@ use Rattle.trig_lexer.specs.declared.parts.Place.TheVariants.{First, Later}
 
 -- what PN_LOCAL_ESC may escape: `!`, `#` to `/`, `;`, `=`, `?`, `@`, `_` and `~`
 abbrev pub escaped_in_local : Rows
-escaped_in_local = (0x21, 0x21) ∷ (0x23, 0x2F) ∷ (0x3B, 0x3B) ∷ (0x3D, 0x3D) ∷ (0x3F, 0x40) ∷ (0x5F, 0x5F) ∷ (0x7E, 0x7E) ∷ []
+escaped_in_local =
+    (0x21, 0x21) ∷ (0x23, 0x2F) ∷ (0x3B, 0x3B) ∷ (0x3D, 0x3D) ∷ (0x3F, 0x40) ∷ (0x5F, 0x5F) ∷ (0x7E, 0x7E) ∷ []
 
 -- '%' HEX HEX
 pub record IsPercent (spelled : Characters) : Type 0 where
@@ -85,7 +86,8 @@ NameShapes PnameNs spelled = IsPnameNs spelled
 NameShapes PnameLn spelled = IsPnameLn spelled
 NameShapes _ spelled = ⊥
 
--- What is left of a name without its PN_LOCAL_ESCs: a `\` is left out, and what follows it stands for itself. The first argument says whether a `\` stands right before the text.
+-- What is left of a name without its PN_LOCAL_ESCs: a `\` is left out, and what follows it stands for itself. The first
+-- argument says whether a `\` stands right before the text.
 abbrev pub unescaped_behind : Bool → Text → Text
 unescaped_behind escaped [] = []
 unescaped_behind true (c ∷ cs) = c ∷ unescaped_behind false cs

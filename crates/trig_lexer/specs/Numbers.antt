@@ -1,5 +1,5 @@
 -- The numbers of RDF 1.1 TriG (section 4.5): INTEGER, DECIMAL and DOUBLE.
-use Rattle.std.specs.Prelude.{◌≡◌, ℕ, ◌<◌, ◌≤◌, true, false, ◌⊎◌, [], ◌∷◌, ◌++◌, All, length}
+use Rattle.std.specs.Prelude.{◌≡◌, ℕ, ◌<◌, true, false, ◌⊎◌, [], ◌∷◌, ◌++◌, All, length}
 use Rattle.std.specs.Char.{is_ascii_digit}
 use Rattle.terminals.specs.Terminal.{Characters}
 use Rattle.trig_lexer.specs.declared.kind.Kind.{Kind}
@@ -36,7 +36,8 @@ pub record IsFraction (spelled : Characters) : Type 0 where
 -- what stands before the exponent of a DOUBLE: [0-9]+ '.' [0-9]*, or '.' [0-9]+, or [0-9]+
 abbrev pub IsMantissa : Characters → Type 0
 IsMantissa spelled =
-    ((whole : Characters) × (fraction : Characters) × (spelled ≡ whole ++ 46 ∷ fraction) × AreSomeDigits whole × AreDigits fraction)
+    ((whole : Characters) × (fraction : Characters) × (spelled ≡ whole ++ 46 ∷ fraction) × AreSomeDigits whole
+    × AreDigits fraction)
     ⊎ (((fraction : Characters) × (spelled ≡ 46 ∷ fraction) × AreSomeDigits fraction) ⊎ AreSomeDigits spelled)
 
 -- [eE]
@@ -105,13 +106,3 @@ pub record BeginsWithDigits (text rest : Characters) : Type 0 where
   pub splits : text ≡ digits ++ rest
   pub are_digits : AreDigits digits
   pub ends : (c : ℕ) (more : Characters) → rest ≡ c ∷ more → is_ascii_digit c ≡ false
-
--- the text begins with an exponent that goes as far as it can, and the rest follows; or with none
-pub record BeginsWithExponent (text rest : Characters) : Type 0 where
-  pub exponent : Characters
-  pub splits : text ≡ exponent ++ rest
-  pub fits : IsExponent exponent
-  pub longest : (other other_rest : Characters) → text ≡ other ++ other_rest → IsExponent other → length other ≤ length exponent
-
-abbrev pub BeginsWithNoExponent : Characters → Type 0
-BeginsWithNoExponent text = (exponent rest : Characters) → text ≡ exponent ++ rest → ¬ (IsExponent exponent)

@@ -1,4 +1,5 @@
--- The strings of RDF 1.1 TriG (section 4.5): between one mark and one, or between three and three, where a mark is `"` or `'`.
+-- The strings of RDF 1.1 TriG (section 4.5): between one mark and one, or between three and three, where a mark is `"`
+-- or `'`.
 use Rattle.std.specs.Prelude.{◌≡◌, ◌≤◌, ◌<◌, ℕ, ◌⊎◌, List, [], ◌∷◌, ◌++◌, All, length}
 use Rattle.std.specs.List.{concat}
 use Rattle.terminals.specs.declared.bodies.Quote.{Quote}

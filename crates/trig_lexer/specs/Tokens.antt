@@ -1,4 +1,5 @@
--- The tokens of a text (RDF 1.1 TriG, sections 4.1, 4.2 and 4.5): which characters spell one of which kind, and which one is next.
+-- The tokens of a text (RDF 1.1 TriG, sections 4.1, 4.2 and 4.5): which characters spell one of which kind, and which
+-- one is next.
 use Rattle.std.specs.Prelude.{◌≡◌, ◌<◌, ◌≤◌, ℕ, Bool, [], ◌∷◌, codes, drop, length}
 use Rattle.rdf_terms.specs.Lists.{Text}
 use Rattle.terminals.specs.Terminal.{Characters}
@@ -15,7 +16,8 @@ use Rattle.trig_lexer.specs.Numbers.{IsInteger, IsDecimal, IsDouble}
 use Rattle.trig_lexer.specs.Strings.{IsQuoted}
 use Rattle.trig_lexer.specs.Names.{IsPnameNs, IsPnameLn}
 
--- Which characters spell a token of which kind, where a string stands before it or none. No characters spell the end of the text.
+-- Which characters spell a token of which kind, where a string stands before it or none. No characters spell the end of
+-- the text.
 unfoldable pub IsToken : Bool → Kind → Characters → Type 0
 IsToken after_string AtPrefix spelled = IsAtPrefix after_string spelled
 IsToken after_string AtBase spelled = IsAtBase after_string spelled
@@ -52,7 +54,8 @@ abbrev pub IsNext : Bool → Kind → Characters → Characters → Type 0
 IsNext after_string kind [] rest = (kind ≡ End) × (rest ≡ [])
 IsNext after_string kind (c ∷ more) rest = BeginsWithLongest (IsToken after_string) (c ∷ more) kind rest
 
--- The next token should begin at this place: what stands before it, from the first place on, is white space and comments, and it is neither.
+-- The next token should begin at this place: what stands before it, from the first place on, is white space and
+-- comments, and it is neither.
 pub record IsTokenStart (text : Text) (place start : ℕ) : Type 0 where
   pub behind : place ≤ start
   pub within : start ≤ length text

@@ -7,8 +7,8 @@ abbrev pub ends_line : ℕ → Bool
 ends_line c = c == 10 || c == 13
 
 -- WS: space, HT, LF and CR
-abbrev pub is_white : ℕ → Bool
-is_white c = c == 32 || (c == 9 || ends_line c)
+abbrev pub is_white_space : ℕ → Bool
+is_white_space c = c == 32 || (c == 9 || ends_line c)
 
 -- the end of a line is here: the next CR or LF, or the end of the text
 abbrev pub IsAtLineEnd : Characters → Type 0
@@ -28,7 +28,7 @@ IsCommentThen text rest = (more : Characters) × (text ≡ 35 ∷ more) × IsLin
 
 -- a character of white space and then the rest
 abbrev pub IsWhiteThen : Characters → Characters → Type 0
-IsWhiteThen text rest = (c : ℕ) × (text ≡ c ∷ rest) × (is_white c ≡ true)
+IsWhiteThen text rest = (c : ℕ) × (text ≡ c ∷ rest) × (is_white_space c ≡ true)
 
 -- either of them and then the rest
 abbrev pub IsGapThen : Characters → Characters → Type 0

@@ -25,7 +25,8 @@ IsAtBase after_string spelled = (after_string ≡ false) × (spelled ≡ codes "
 
 -- LANGTAG, where it is none of these words
 abbrev pub IsLangTag : Bool → Characters → Type 0
-IsLangTag after_string spelled = HasValue Tag spelled × (after_string ≡ false → (spelled ≢ codes "@prefix") × (spelled ≢ codes "@base"))
+IsLangTag after_string spelled =
+    HasValue Tag spelled × (after_string ≡ false → (spelled ≢ codes "@prefix") × (spelled ≢ codes "@base"))
 
 -- ANON: `[`, white space and comments, and `]`
 abbrev pub IsAnon : Characters → Type 0
@@ -33,4 +34,6 @@ IsAnon spelled = (inside : Characters) × (spelled ≡ 91 ∷ inside) × IsSkipp
 
 -- marks of one character
 abbrev pub marks : List (ℕ × Kind)
-marks = (46, Dot) ∷ (59, Semicolon) ∷ (44, Comma) ∷ (123, LeftBrace) ∷ (125, RightBrace) ∷ (91, LeftBracket) ∷ (93, RightBracket) ∷ (40, LeftParen) ∷ (41, RightParen) ∷ []
+marks =
+    (46, Dot) ∷ (59, Semicolon) ∷ (44, Comma) ∷ (123, LeftBrace) ∷ (125, RightBrace) ∷ (91, LeftBracket) ∷
+    (93, RightBracket) ∷ (40, LeftParen) ∷ (41, RightParen) ∷ []

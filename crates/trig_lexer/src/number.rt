@@ -3,12 +3,13 @@
 ghost use Rattle.std.specs.Prelude.{◌≡◌, ◌≢◌, ◌≤◌, ℕ, List, ◌∷◌, length, IfSome, IfNone};
 ghost use Rattle.std.specs.Char.{is_ascii_digit};
 ghost use Rattle.std.specs.List.{prefix_len};
+ghost use Rattle.trig_lexer.specs.Fronts.{BeginsWithNoShape, BeginsWithLongestShape};
 ghost use Rattle.trig_lexer.specs.Longest.{BeginsWithLongest, BeginsWithNoToken, TextBeginsWithLongest, TextBeginsWithNoToken};
-ghost use Rattle.trig_lexer.specs.Numbers.{BeginsWithSign, BeginsWithDigits, BeginsWithLetter, BeginsWithNoLetter, BeginsWithExponent, BeginsWithNoExponent, UnsignedShapes, NumberShapes};
+ghost use Rattle.trig_lexer.specs.Numbers.{BeginsWithSign, BeginsWithDigits, BeginsWithLetter, BeginsWithNoLetter, IsExponent, UnsignedShapes, NumberShapes};
 
 use crate::Kind;
 use crate::found::Found;
-use terminals::after;
+use terminals::{after, front_len};
 
 // What follows the sign, where one stands at the front.
 fn after_sign(text: &str) -> &str
@@ -28,10 +29,7 @@ fn digits_len(text: &str) -> usize
     ensures is { result ≡ prefix_len is_ascii_digit text.now }
     ensures within { result ≤ length text.now }
 {
-    text.as_bytes()
-        .iter()
-        .take_while(|byte| byte.is_ascii_digit())
-        .count()
+    front_len!(text, |byte| byte.is_ascii_digit())
 }
 
 // What follows the digits at the front.
@@ -54,8 +52,8 @@ fn after_letter(text: &str) -> Option<&str>
 
 // What follows the exponent at the front.
 fn after_exponent(text: &str) -> Option<&str>
-    ensures found { IfSome result (λ rest. BeginsWithExponent text.now rest.now) }
-    ensures none { IfNone result (BeginsWithNoExponent text.now) }
+    ensures found { IfSome result (λ rest. BeginsWithLongestShape IsExponent text.now rest.now) }
+    ensures none { IfNone result (BeginsWithNoShape IsExponent text.now) }
 {
     let digits = after_sign(after_letter(text)?);
     let rest = after_digits(digits);
@@ -132,7 +130,7 @@ fn unsigned(text: &str) -> Option<Found<'_>>
     }
 }
 
-/// The longest INTEGER, DECIMAL or DOUBLE at the front of the text (RDF 1.1 TriG, section 4.5).
+// The longest INTEGER, DECIMAL or DOUBLE at the front of the text (RDF 1.1 TriG, section 4.5).
 pub(crate) fn number(text: &str) -> Option<Found<'_>>
     ensures found { IfSome result (λ x. TextBeginsWithLongest NumberShapes text.now x.kind x.rest.now) }
     ensures none { IfNone result (TextBeginsWithNoToken NumberShapes text.now) }

@@ -2,7 +2,7 @@
 
 ghost use Rattle.std.specs.Prelude.{◌≡◌, IfSome, IfNone};
 ghost use Rattle.trig_lexer.specs.Fronts.{TextReads, TextReadsNone};
-ghost use Rattle.trig_lexer.specs.WhiteSpace.{ends_line, is_white, IsLineThen, IsGapThen, BeginsWithNoGap, IsSkipped};
+ghost use Rattle.trig_lexer.specs.WhiteSpace.{ends_line, is_white_space, IsLineThen, IsGapThen, BeginsWithNoGap, IsSkipped};
 
 use terminals::first_char;
 
@@ -12,8 +12,8 @@ fn ends_line(c: char) -> bool
     c == '\n' || c == '\r'
 }
 
-fn is_white(c: char) -> bool
-    ensures { result ≡ is_white c }
+fn is_white_space(c: char) -> bool
+    ensures { result ≡ is_white_space c }
 {
     c == ' ' || c == '\t' || ends_line(c)
 }
@@ -38,7 +38,7 @@ fn after_gap(text: &str) -> Option<&str>
     ensures none { IfNone result (TextReadsNone BeginsWithNoGap text.now) }
 {
     let (first, rest) = first_char(text)?;
-    if is_white(first) {
+    if is_white_space(first) {
         Some(rest)
     } else if first == '#' {
         Some(after_line(rest))

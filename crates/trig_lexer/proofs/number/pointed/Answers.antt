@@ -15,4 +15,5 @@ returns-then-end-fraction-clause-found c =
 
 pub returns-else-end-fraction-clause-found : goal.returns-else-end-fraction-clause-found
 returns-else-end-fraction-clause-found c =
-    integer_pointed c.args.text.now c.args.behind.now c.requires.whole c.args.fraction.now _ c.requires.point c.after_digits-end.ensures c.if-text-end.false c.if-end-fraction.false c.in-None.ensures.none
+    integer_pointed c.args.text.now c.args.behind.now c.requires.whole c.args.fraction.now _ c.requires.point c.after_digits-end.ensures c.if-text-end.false c.if-end-fraction.false
+    c.in-None.ensures.none

@@ -17,7 +17,8 @@ pub returns-else-is_hex-clause-none : goal.returns-else-is_hex-clause-none
 returns-else-is_hex-clause-none c =
     elim c.else-is_hex.branch [
       | else-is_hex-via-then-is_hex+else-is_hex-2 w ↦
-          percent_none_second_hex c.args.text.now _ c.in_ok-after.ensures.found _ _ c.in_ok-first.ensures.found _ _ c.in_ok-second.ensures.found (sym w.is_hex-then-is_hex.ensures ∙ w.if-is_hex-2.false)
+          percent_none_second_hex c.args.text.now _ c.in_ok-after.ensures.found _ _ c.in_ok-first.ensures.found _ _ c.in_ok-second.ensures.found
+          (sym w.is_hex-then-is_hex.ensures ∙ w.if-is_hex-2.false)
       | else-is_hex-via-else-is_hex w ↦
           percent_none_hex c.args.text.now _ c.in_ok-after.ensures.found _ _ c.in_ok-first.ensures.found (sym c.is_hex.ensures ∙ w.if-is_hex.false)
     ]
