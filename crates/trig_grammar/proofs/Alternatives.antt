@@ -1,6 +1,6 @@
 -- What each name of the productions stands for in the published grammar, and that its productions are the right sides of that.
-use Rattle.std.proofs.Common.{◌≡◌, Bool, true, false, ◌==◌, if◌then◌else◌, ◌⊎◌, inl, inr, List, [], ◌∷◌, ◌++◌, refl, sym, ap, subst, ◌∙◌}
-use Rattle.std.proofs.lemmas.Bool.{eqb-true}
+use Rattle.std.proofs.Common.{◌≡◌, Bool, true, false, ◌==◌, if◌then◌else◌, ◌⊎◌, inl, inr, List, [], ◌∷◌, ◌++◌, refl, sym, ap, subst, ◌∙◌, map}
+use Rattle.std.proofs.lemmas.Bool.{eq-eqb, eqb-true}
 use Rattle.rdf_terms.specs.Lists.{In}
 use Rattle.trig_lexer.specs.declared.kind.Kind.TheVariants.{Dot, Semicolon, Comma, Carets, LangTag}
 use Rattle.trig_grammar.specs.declared.symbol.Symbol.{Symbol}
@@ -12,7 +12,6 @@ use Rattle.trig_grammar.specs.Places.{row}
 use Rattle.trig_grammar.specs.Published.{Expression, is}
 use Rattle.trig_grammar.specs.Published.Part.{trigDoc, block, triplesOrGraph, triples2, wrappedGraph, triplesBlock, labelOrSubject, directive, prefixID, base, sparqlPrefix, sparqlBase, triples, predicateObjectList, objectList, verb, subject, object, literal, rdfLiteral, blankNodePropertyList, collection, iri, blankNode}
 use Rattle.trig_grammar.specs.Published.Expression.{token, part, ◌⨾◌, ◌∣◌, maybe, many}
-use Rattle.trig_grammar.proofs.Tests.{same_number}
 use Rattle.trig_grammar.proofs.Computed.{same_row}
 
 -- ---- what each name stands for
@@ -53,13 +52,12 @@ means Items = many (part object)
 means Iri = part iri
 means BlankNode = part blankNode
 
-abbrev standing : Symbol → Expression
+abbrev pub standing : Symbol → Expression
 standing (Token kind) = token kind
 standing (Name n) = means n
 
 abbrev pub spelled : List Symbol → List Expression
-spelled [] = []
-spelled (x ∷ xs) = standing x ∷ spelled xs
+spelled xs = map standing xs
 
 abbrev pub unfolded : Expression → Expression
 unfolded (part name) = is name
@@ -99,27 +97,6 @@ no_token Document = refl
 no_token _ = refl
 
 -- ---- lists
-
-pub in_left : {A : Type 0} (x : A) (xs ys : List A) → In x xs → In x (xs ++ ys)
-in_left x [] ys i = absurd i
-in_left x (z ∷ xs) ys (inl e) = inl e
-in_left x (z ∷ xs) ys (inr i) = inr (in_left x xs ys i)
-
-pub in_right : {A : Type 0} (x : A) (xs ys : List A) → In x ys → In x (xs ++ ys)
-in_right x [] ys i = i
-in_right x (z ∷ xs) ys i = inr (in_right x xs ys i)
-
-pub in_either : {A : Type 0} (x : A) (xs ys : List A) → In x (xs ++ ys) → In x xs ⊎ In x ys
-in_either x [] ys i = inr i
-in_either x (z ∷ xs) ys (inl e) = inl (inl e)
-in_either x (z ∷ xs) ys (inr i) = elim (in_either x xs ys i) [
-  | inl j ↦ inl (inr j)
-  | inr j ↦ inr j
-]
-
-pub spelled_append : (xs ys : List Symbol) → spelled (xs ++ ys) ≡ spelled xs ++ spelled ys
-spelled_append [] ys = refl
-spelled_append (x ∷ xs) ys = ap (λ es. standing x ∷ es) (spelled_append xs ys)
 
 pub record Halves (es fs : List Expression) (xs : List Symbol) : Type 0 where
   pub front : List Symbol
@@ -164,7 +141,7 @@ body_case true es fs more (inr i) = inr i
 
 in_bodies : (n : Nonterminal) (body : List Symbol) (rs : List Rule) → In (rule n body) rs → In (spelled body) (bodies n rs)
 in_bodies n body [] i = absurd i
-in_bodies n body (r ∷ rs) (inl e) = subst (λ x. In (spelled body) (bodies n (x ∷ rs))) e (body_here (row n == row n) (spelled body) (bodies n rs) (same_number (row n)))
+in_bodies n body (r ∷ rs) (inl e) = subst (λ x. In (spelled body) (bodies n (x ∷ rs))) e (body_here (row n == row n) (spelled body) (bodies n rs) (eq-eqb (row n) (row n) refl))
 in_bodies n body (r ∷ rs) (inr i) = body_there (row r.head == row n) (spelled body) (spelled r.body) (bodies n rs) (in_bodies n body rs i)
 
 of_bodies : (n : Nonterminal) (es : List Expression) (rs : List Rule) → In es (bodies n rs) → (body : List Symbol) × In (rule n body) rs × (es ≡ spelled body)

@@ -1,6 +1,6 @@
 -- Each name comes in some sentence.
 use Rattle.std.proofs.Common.{◌≡◌, ℕ, zero, suc, ◌<◌, Bool, true, ◌||◌, ◌==◌, nat_lt, inl, inr, List, [], ◌∷◌, ◌++◌, refl, sym, subst, arith, append_assoc}
-use Rattle.std.proofs.lemmas.Bool.{eqb-true}
+use Rattle.std.proofs.lemmas.Bool.{eqb-true, or_cases}
 use Rattle.rdf_terms.specs.Lists.{In}
 use Rattle.trig_lexer.specs.declared.kind.Kind.{Kind}
 use Rattle.trig_lexer.specs.declared.kind.Kind.TheVariants.{End}
@@ -12,7 +12,6 @@ use Rattle.trig_grammar.specs.Grammar.{Rule, rules}
 use Rattle.trig_grammar.specs.Places.{row}
 use Rattle.trig_grammar.specs.Reach.{Comes}
 use Rattle.trig_grammar.specs.Reach.Comes.{at_start, passes, gives_way}
-use Rattle.trig_grammar.proofs.Tests.{or_cases}
 use Rattle.trig_grammar.proofs.Computed.{same_row}
 use Rattle.trig_grammar.proofs.Standing.{derives_some}
 use Rattle.trig_grammar.proofs.Firsts.{less_than}
@@ -27,7 +26,8 @@ pass_all : (front symbols : List Symbol) (taken : List Kind) → Comes taken (fr
 pass_all [] symbols taken c = (taken, c)
 pass_all (x ∷ front) symbols taken c = let word = derives_some (x ∷ []) in pass_all front symbols (taken ++ word.0) (passes x word.1 refl c)
 
-pub comes_at : (n : Nonterminal) (s : Rule) (taken : List Kind) (symbols : List Symbol) → In s (spots n rules) → Comes taken (Name s.head ∷ symbols) → (all : List Kind) × Comes all (Name n ∷ (s.body ++ symbols))
+pub comes_at : (n : Nonterminal) (s : Rule) (taken : List Kind) (symbols : List Symbol) → In s (spots n rules) → Comes taken (Name s.head ∷ symbols)
+    → (all : List Kind) × Comes all (Name n ∷ (s.body ++ symbols))
 comes_at n s taken symbols i c =
     let at = spot_of n rules s i in
     pass_all at.0 (Name n ∷ (s.body ++ symbols)) taken (gives_way (at.0 ++ Name n ∷ s.body) at.1 (sym (append_assoc at.0 (Name n ∷ s.body) symbols)) c)

@@ -10,7 +10,7 @@ use Rattle.trig_grammar.specs.Grammar.{Rule, rules}
 use Rattle.trig_grammar.specs.Places.{column, row, columns}
 use Rattle.trig_grammar.specs.Beginnings.{may_be_empty, first, follow, holds, are_empty, begin_with, predicts}
 use Rattle.trig_grammar.specs.Table.{rule_at, body_at, the_cells, upper_cells, lower_cells, cell}
-use Rattle.trig_grammar.specs.Ranks.{rank}
+use Rattle.trig_grammar.proofs.Ranks.{rank}
 use Rattle.trig_grammar.proofs.Tests.{implies, every}
 
 -- ---- what is computed of all productions and columns
@@ -75,79 +75,18 @@ shrinks n k (Some p) = shrinks_to n k (body_at p)
 pub all_sound : (n : Nonterminal) → every (λ k. is_sound n k (cell n k)) columns ≡ true
 unfolding rules the_cells upper_cells lower_cells
 all_sound Document = refl
-all_sound Statement = refl
-all_sound Block = refl
-all_sound TriplesOrGraph = refl
-all_sound AfterLabel = refl
-all_sound Triples2 = refl
-all_sound WrappedGraph = refl
-all_sound MaybeTriples = refl
-all_sound TriplesBlock = refl
-all_sound MoreTriples = refl
-all_sound LabelOrSubject = refl
-all_sound Directive = refl
-all_sound PrefixId = refl
-all_sound Base = refl
-all_sound SparqlPrefix = refl
-all_sound SparqlBase = refl
-all_sound Triples = refl
-all_sound MaybePredicates = refl
-all_sound Predicates = refl
-all_sound MorePredicates = refl
-all_sound MaybePredicate = refl
-all_sound Objects = refl
-all_sound MoreObjects = refl
-all_sound Verb = refl
-all_sound Subject = refl
-all_sound Object = refl
-all_sound Literal = refl
-all_sound RdfLiteral = refl
-all_sound Suffix = refl
-all_sound PropertyList = refl
-all_sound Collection = refl
-all_sound Items = refl
-all_sound Iri = refl
-all_sound BlankNode = refl
+all_sound _ = refl
 
 pub all_shrink : (n : Nonterminal) → every (λ k. shrinks n k (cell n k)) columns ≡ true
 unfolding rules the_cells upper_cells lower_cells
 all_shrink Document = refl
-all_shrink Statement = refl
-all_shrink Block = refl
-all_shrink TriplesOrGraph = refl
-all_shrink AfterLabel = refl
-all_shrink Triples2 = refl
-all_shrink WrappedGraph = refl
-all_shrink MaybeTriples = refl
-all_shrink TriplesBlock = refl
-all_shrink MoreTriples = refl
-all_shrink LabelOrSubject = refl
-all_shrink Directive = refl
-all_shrink PrefixId = refl
-all_shrink Base = refl
-all_shrink SparqlPrefix = refl
-all_shrink SparqlBase = refl
-all_shrink Triples = refl
-all_shrink MaybePredicates = refl
-all_shrink Predicates = refl
-all_shrink MorePredicates = refl
-all_shrink MaybePredicate = refl
-all_shrink Objects = refl
-all_shrink MoreObjects = refl
-all_shrink Verb = refl
-all_shrink Subject = refl
-all_shrink Object = refl
-all_shrink Literal = refl
-all_shrink RdfLiteral = refl
-all_shrink Suffix = refl
-all_shrink PropertyList = refl
-all_shrink Collection = refl
-all_shrink Items = refl
-all_shrink Iri = refl
-all_shrink BlankNode = refl
+all_shrink _ = refl
 
 abbrev pub names : List Nonterminal
-names = Document ∷ Statement ∷ Block ∷ TriplesOrGraph ∷ AfterLabel ∷ Triples2 ∷ WrappedGraph ∷ MaybeTriples ∷ TriplesBlock ∷ MoreTriples ∷ LabelOrSubject ∷ Directive ∷ PrefixId ∷ Base ∷ SparqlPrefix ∷ SparqlBase ∷ Triples ∷ MaybePredicates ∷ Predicates ∷ MorePredicates ∷ MaybePredicate ∷ Objects ∷ MoreObjects ∷ Verb ∷ Subject ∷ Object ∷ Literal ∷ RdfLiteral ∷ Suffix ∷ PropertyList ∷ Collection ∷ Items ∷ Iri ∷ BlankNode ∷ []
+names =
+    Document ∷ Statement ∷ Block ∷ TriplesOrGraph ∷ AfterLabel ∷ Triples2 ∷ WrappedGraph ∷ MaybeTriples ∷ TriplesBlock ∷ MoreTriples ∷ LabelOrSubject ∷ Directive ∷ PrefixId ∷ Base ∷ SparqlPrefix
+    ∷ SparqlBase ∷ Triples ∷ MaybePredicates ∷ Predicates ∷ MorePredicates ∷ MaybePredicate ∷ Objects ∷ MoreObjects ∷ Verb ∷ Subject ∷ Object ∷ Literal ∷ RdfLiteral ∷ Suffix ∷ PropertyList
+    ∷ Collection ∷ Items ∷ Iri ∷ BlankNode ∷ []
 
 abbrev name_at : List Nonterminal → ℕ → Option Nonterminal
 name_at [] n = None

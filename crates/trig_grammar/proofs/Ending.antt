@@ -1,5 +1,6 @@
 -- A sentence ends with the end of the text, and has it nowhere else.
 use Rattle.std.proofs.Common.{◌≡◌, Bool, true, false, ◌&&◌, List, [], ◌∷◌, ◌++◌, refl, sym, ap, subst, ◌∙◌, arith, length, append_assoc, append-nil}
+use Rattle.std.proofs.lemmas.Bool.{and_from}
 use Rattle.std.proofs.lemmas.List.{length-append}
 use Rattle.trig_lexer.specs.declared.kind.Kind.{Kind}
 use Rattle.trig_lexer.specs.declared.kind.Kind.TheVariants.{End}
@@ -8,7 +9,7 @@ use Rattle.trig_grammar.specs.declared.symbol.Symbol.TheVariants.{Token, Name}
 use Rattle.trig_grammar.specs.declared.nonterminal.Nonterminal.TheVariants.{Document}
 use Rattle.trig_grammar.specs.Grammar.{rule, rules, Derives, IsSentence, BeginsSentence}
 use Rattle.trig_grammar.specs.Grammar.Derives.{nothing, takes, expands}
-use Rattle.trig_grammar.proofs.Tests.{every, every_in, and_left, and_right, and_both}
+use Rattle.trig_grammar.proofs.Tests.{every, every_in, and_left, and_right}
 
 abbrev is_no_end : Kind → Bool
 is_no_end End = false
@@ -26,7 +27,7 @@ all_endless = refl
 have_no_end-append : (one other : List Symbol) → have_no_end one ≡ true → have_no_end other ≡ true → have_no_end (one ++ other) ≡ true
 have_no_end-append [] other h k = k
 have_no_end-append (Token kind ∷ one) other h k =
-    and_both (is_no_end kind) (have_no_end (one ++ other)) (and_left (is_no_end kind) (have_no_end one) h) (have_no_end-append one other (and_right (is_no_end kind) (have_no_end one) h) k)
+    and_from (is_no_end kind) (have_no_end (one ++ other)) (and_left (is_no_end kind) (have_no_end one) h) (have_no_end-append one other (and_right (is_no_end kind) (have_no_end one) h) k)
 have_no_end-append (Name n ∷ one) other h k = have_no_end-append one other h k
 
 nothing_left : {symbols : List Symbol} {kinds : List Kind} → Derives symbols kinds → symbols ≡ [] → kinds ≡ []

@@ -62,7 +62,8 @@ tied_at base [] p r k h e held b = cc
 tied_at base (x ∷ rs) zero r k h e held b =
     let same : x ≡ r = cc in
     subst (λ (n : ℕ). cell r.head k ≡ Some n) (omega arith) (number_is base (cell r.head k) (subst (λ y. is_number base (cell y.head k) ≡ true) same
-    (modus (predicts x k) _ (every_held (λ k. implies (predicts x k) (is_number base (cell x.head k))) columns k (and_left (every (λ k. implies (predicts x k) (is_number base (cell x.head k))) columns) _ h) held)
+    (modus (predicts x k) _ (every_held (λ k. implies (predicts x k) (is_number base (cell x.head k))) columns k
+    (and_left (every (λ k. implies (predicts x k) (is_number base (cell x.head k))) columns) _ h) held)
     (subst (λ y. predicts y k ≡ true) (sym same) b))))
 tied_at base (x ∷ rs) (suc p) r k h e held b =
     subst (λ (n : ℕ). cell r.head k ≡ Some n) (omega arith)

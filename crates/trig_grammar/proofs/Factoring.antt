@@ -1,6 +1,7 @@
 -- The published grammar and the productions have the same sentences. Each name stands for a part or for an operator with what it stands over.
 use Rattle.std.proofs.Common.{◌≡◌, ◌↔◌, true, false, inl, inr, List, [], ◌∷◌, ◌++◌, refl, sym, ap, subst, ◌∙◌, append_assoc}
-use Rattle.rdf_terms.specs.Lists.{In}
+use Rattle.std.proofs.lemmas.List.{map-append}
+use Rattle.rdf_terms.proofs.Common.{In, In-append, In-append_left, In-append_right}
 use Rattle.trig_lexer.specs.declared.kind.Kind.{Kind}
 use Rattle.trig_lexer.specs.declared.kind.Kind.TheVariants.{End}
 use Rattle.trig_grammar.specs.declared.symbol.Symbol.{Symbol}
@@ -12,7 +13,7 @@ use Rattle.trig_grammar.specs.Published.{Part, Expression, is, Tree, IsPublished
 use Rattle.trig_grammar.specs.Published.Part.{trigDoc}
 use Rattle.trig_grammar.specs.Published.Expression.{token, part, ◌⨾◌, ◌∣◌, maybe, many}
 use Rattle.trig_grammar.specs.Published.Tree.{leaf, node, both, first, second, without, with, no_more, one_more}
-use Rattle.trig_grammar.proofs.Alternatives.{means, spelled, unfolded, factors, choices, alternatives, is_token, no_token, in_left, in_right, in_either, spelled_append, halves, spells_nothing, is_alternative, HasAll, has_all}
+use Rattle.trig_grammar.proofs.Alternatives.{means, standing, spelled, unfolded, factors, choices, alternatives, is_token, no_token, halves, spells_nothing, is_alternative, HasAll, has_all}
 
 -- ---- trees one behind the other
 
@@ -38,7 +39,7 @@ of_none : (e : Expression) (es : List Expression) (all rest : List Kind) → ((k
 of_none e es all rest none same ts = let stays : all ≡ rest = subst (λ fs. Trees fs all rest) same ts in subst (λ r. Tree e all r) stays (none all)
 
 of_choices : (e : Expression) (es : List Expression) (all rest : List Kind) → In es (choices e) → Trees es all rest → Tree e all rest
-of_choices (one ∣ other) es all rest i ts = elim (in_either es (choices one) (choices other) i) [
+of_choices (one ∣ other) es all rest i ts = elim (In-append (choices one) (choices other) es i) [
   | inl j ↦ first (of_choices one es all rest j ts)
   | inr j ↦ second (of_choices other es all rest j ts)
 ]
@@ -73,7 +74,7 @@ sound : {symbols : List Symbol} {kinds : List Kind} → Derives symbols kinds �
 sound nothing = refl
 sound (takes {kind} {symbols} {kinds} d) = (kinds, leaf, sound d)
 sound (expands {head} body {symbols} {kinds} i d) =
-    let s = split_trees (spelled body) (spelled symbols) kinds [] (subst (λ es. Trees es kinds []) (spelled_append body symbols) (sound d)) in
+    let s = split_trees (spelled body) (spelled symbols) kinds [] (subst (λ es. Trees es kinds []) (map-append standing body symbols) (sound d)) in
     (s.0, closed (means head) kinds s.0 (of_alternatives (means head) (unfolded (means head)) (spelled body) kinds s.0 (opened (means head)) (is_alternative head body i) s.1), s.2)
 
 -- ---- what has a tree is derived by the productions
@@ -175,8 +176,8 @@ goes : {e : Expression} {all rest : List Kind} → Tree e all rest → Goes e al
 goes (leaf {kind} {rest}) = goes_token kind rest
 goes (node {name} {all} {rest} t) = goes_part name all rest (goes t).top
 goes (both {one} {other} {all} {middle} {rest} t u) = goes_both one other all rest (both_row (factors one) (factors other) all middle rest (goes t).row_of (goes u).row_of)
-goes (first {one} {other} {all} {rest} t) = goes_either one other all rest (λ n symbols has d. (goes t).choice n symbols (λ es i. has es (in_left es (choices one) (choices other) i)) d)
-goes (second {one} {other} {all} {rest} t) = goes_either one other all rest (λ n symbols has d. (goes t).choice n symbols (λ es i. has es (in_right es (choices one) (choices other) i)) d)
+goes (first {one} {other} {all} {rest} t) = goes_either one other all rest (λ n symbols has d. (goes t).choice n symbols (λ es i. has es (In-append_left (choices one) (choices other) es i)) d)
+goes (second {one} {other} {all} {rest} t) = goes_either one other all rest (λ n symbols has d. (goes t).choice n symbols (λ es i. has es (In-append_right (choices one) (choices other) es i)) d)
 goes (without {one} {all}) = goes_maybe one all all (λ n symbols has d. by_body n [] all all symbols (has [] (inl refl)) (none_row all) d)
 goes (with {one} {all} {rest} t) = goes_maybe one all rest (λ n symbols has d. (goes t).choice n symbols (λ es i. has es (inr i)) d)
 goes (no_more {one} {all}) = goes_many one all all (none_top one all)

@@ -1,6 +1,6 @@
 -- A name is empty, and begins with a kind, as the sets of the table say, exactly where some derivation has it so. For each member the step that leads to it is found by computing.
 use Rattle.std.proofs.Common.{◌≡◌, ℕ, zero, suc, ◌<◌, Bool, true, false, ◌&&◌, ◌==◌, nat_lt, inl, inr, List, [], ◌∷◌, ◌++◌, Option, Some, None, refl, sym, ap, subst, ◌∙◌, arith}
-use Rattle.std.proofs.lemmas.Bool.{eqb-true}
+use Rattle.std.proofs.lemmas.Bool.{and_from, eqb-true, or_cases}
 use Rattle.trig_lexer.specs.declared.kind.Kind.{Kind}
 use Rattle.trig_lexer.specs.declared.kind.Kind.TheVariants.{AtPrefix, AtBase, WordPrefix, WordBase, WordGraph, WordA, WordTrue, WordFalse, Dot, Semicolon, Comma, Carets, LeftBrace, RightBrace, LeftBracket, RightBracket, LeftParen, RightParen, IriRef, PnameNs, PnameLn, BlankLabel, Anon, Integer, Decimal, Double, Quoted, LangTag, End}
 use Rattle.trig_grammar.specs.declared.symbol.Symbol.{Symbol}
@@ -12,9 +12,9 @@ use Rattle.trig_grammar.specs.Grammar.Derives.{nothing, takes, expands}
 use Rattle.trig_grammar.specs.Places.{column, columns}
 use Rattle.trig_grammar.specs.Beginnings.{may_be_empty, first, holds, are_empty, begin_with}
 use Rattle.trig_grammar.specs.Table.{body_at, the_cells, upper_cells, lower_cells, cell}
-use Rattle.trig_grammar.specs.Ranks.{rank}
+use Rattle.trig_grammar.proofs.Ranks.{rank}
 use Rattle.trig_grammar.specs.Reach.{EmptyIsRight, FirstIsRight}
-use Rattle.trig_grammar.proofs.Tests.{implies, every, every_held, modus, and_left, and_right, and_both, or_cases}
+use Rattle.trig_grammar.proofs.Tests.{implies, every, every_held, modus, and_left, and_right}
 use Rattle.trig_grammar.proofs.Computed.{column_held}
 use Rattle.trig_grammar.proofs.Replacing.{sound}
 use Rattle.trig_grammar.proofs.Predicting.{begins, of_empty}
@@ -23,7 +23,9 @@ use Rattle.trig_grammar.proofs.Standing.{stands_empty, derives_some}
 -- ---- kinds by column
 
 abbrev all_kinds : List Kind
-all_kinds = AtPrefix ∷ AtBase ∷ WordPrefix ∷ WordBase ∷ WordGraph ∷ WordA ∷ WordTrue ∷ WordFalse ∷ Dot ∷ Semicolon ∷ Comma ∷ Carets ∷ LeftBrace ∷ RightBrace ∷ LeftBracket ∷ RightBracket ∷ LeftParen ∷ RightParen ∷ IriRef ∷ PnameNs ∷ PnameLn ∷ BlankLabel ∷ Anon ∷ Integer ∷ Decimal ∷ Double ∷ Quoted ∷ LangTag ∷ End ∷ []
+all_kinds =
+    AtPrefix ∷ AtBase ∷ WordPrefix ∷ WordBase ∷ WordGraph ∷ WordA ∷ WordTrue ∷ WordFalse ∷ Dot ∷ Semicolon ∷ Comma ∷ Carets ∷ LeftBrace ∷ RightBrace ∷ LeftBracket ∷ RightBracket ∷ LeftParen
+    ∷ RightParen ∷ IriRef ∷ PnameNs ∷ PnameLn ∷ BlankLabel ∷ Anon ∷ Integer ∷ Decimal ∷ Double ∷ Quoted ∷ LangTag ∷ End ∷ []
 
 abbrev kind_at : List Kind → ℕ → Option Kind
 kind_at [] k = None
@@ -49,14 +51,14 @@ empties nothing e = refl
 empties (takes d) e = cc
 empties (expands {head} body {symbols} i d) e =
     let b = both_empty body symbols (empties d e) in
-    and_both (may_be_empty head) (are_empty symbols) (of_empty (rule head body) i b.0) b.1
+    and_from (may_be_empty head) (are_empty symbols) (of_empty (rule head body) i b.0) b.1
   where
     both_empty : (xs ys : List Symbol) → are_empty (xs ++ ys) ≡ true → (are_empty xs ≡ true) × (are_empty ys ≡ true)
     both_empty [] ys h = (refl, h)
     both_empty (Token kind ∷ xs) ys h = cc
     both_empty (Name n ∷ xs) ys h =
         let more = both_empty xs ys (and_right (may_be_empty n) _ h) in
-        (and_both (may_be_empty n) _ (and_left (may_be_empty n) _ h) more.0, more.1)
+        (and_from (may_be_empty n) _ (and_left (may_be_empty n) _ h) more.0, more.1)
 
 pub empty_is_right : EmptyIsRight
 empty_is_right n = (

@@ -1,5 +1,6 @@
 -- What may follow a name is what the sets of the table say.
 use Rattle.std.proofs.Common.{◌≡◌, ℕ, zero, suc, ◌<◌, Bool, true, ◌&&◌, ◌||◌, ◌==◌, nat_lt, inl, inr, List, [], ◌∷◌, ◌++◌, refl, sym, subst, arith, append_assoc}
+use Rattle.std.proofs.lemmas.Bool.{or_cases}
 use Rattle.trig_lexer.specs.declared.kind.Kind.{Kind}
 use Rattle.trig_lexer.specs.declared.kind.Kind.TheVariants.{End}
 use Rattle.trig_grammar.specs.declared.symbol.Symbol.{Symbol}
@@ -13,7 +14,7 @@ use Rattle.trig_grammar.specs.Beginnings.{follow, holds, are_empty, begin_with}
 use Rattle.trig_grammar.specs.Reach.{Comes, CanFollow, LeadsToSentences, FollowIsRight}
 use Rattle.trig_grammar.specs.Reach.Comes.{at_start, passes, gives_way}
 use Rattle.trig_grammar.specs.Stack.{Fits}
-use Rattle.trig_grammar.proofs.Tests.{implies, every, every_held, modus, and_left, and_right, or_cases}
+use Rattle.trig_grammar.proofs.Tests.{implies, every, every_held, modus, and_left, and_right}
 use Rattle.trig_grammar.proofs.Computed.{column_held}
 use Rattle.trig_grammar.proofs.Predicting.{begins, fits_expanded}
 use Rattle.trig_grammar.proofs.Progress.{start_fits}

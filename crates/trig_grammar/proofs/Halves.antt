@@ -2,17 +2,20 @@
 use Rattle.std.proofs.Common.{◌≡◌, ℕ, List, [], ◌∷◌, Option, refl, ap, ◌∙◌, slice_index_or}
 use Rattle.trig_grammar.specs.Table.{the_cells, upper_cells, lower_cells, IsTable, IsUpper, IsLower}
 
-pub rows : List (List (Option ℕ)) → List (List (Option ℕ)) → List (List (Option ℕ))
-rows upper lower = slice_index_or upper 0 [] ∷ slice_index_or upper 1 [] ∷ slice_index_or upper 2 [] ∷ slice_index_or upper 3 [] ∷ slice_index_or upper 4 [] ∷ slice_index_or upper 5 [] ∷ slice_index_or upper 6 [] ∷ slice_index_or upper 7 [] ∷ slice_index_or upper 8 [] ∷ slice_index_or upper 9 [] ∷ slice_index_or upper 10 [] ∷ slice_index_or upper 11 [] ∷ slice_index_or upper 12 [] ∷ slice_index_or upper 13 [] ∷ slice_index_or upper 14 [] ∷ slice_index_or upper 15 [] ∷ slice_index_or upper 16 [] ∷ slice_index_or lower 0 [] ∷ slice_index_or lower 1 [] ∷ slice_index_or lower 2 [] ∷ slice_index_or lower 3 [] ∷ slice_index_or lower 4 [] ∷ slice_index_or lower 5 [] ∷ slice_index_or lower 6 [] ∷ slice_index_or lower 7 [] ∷ slice_index_or lower 8 [] ∷ slice_index_or lower 9 [] ∷ slice_index_or lower 10 [] ∷ slice_index_or lower 11 [] ∷ slice_index_or lower 12 [] ∷ slice_index_or lower 13 [] ∷ slice_index_or lower 14 [] ∷ slice_index_or lower 15 [] ∷ slice_index_or lower 16 [] ∷ []
+-- the rows of both halves, one after the other
+abbrev pub rows : List (List (Option ℕ)) → List (List (Option ℕ)) → List (List (Option ℕ))
+rows upper lower =
+    slice_index_or upper 0 [] ∷ slice_index_or upper 1 [] ∷ slice_index_or upper 2 [] ∷ slice_index_or upper 3 [] ∷ slice_index_or upper 4 [] ∷ slice_index_or upper 5 [] ∷ slice_index_or upper 6 []
+    ∷ slice_index_or upper 7 [] ∷ slice_index_or upper 8 [] ∷ slice_index_or upper 9 [] ∷ slice_index_or upper 10 [] ∷ slice_index_or upper 11 [] ∷ slice_index_or upper 12 [] ∷ slice_index_or upper 13
+    [] ∷ slice_index_or upper 14 [] ∷ slice_index_or upper 15 [] ∷ slice_index_or upper 16 [] ∷ slice_index_or lower 0 [] ∷ slice_index_or lower 1 [] ∷ slice_index_or lower 2 []
+    ∷ slice_index_or lower 3 [] ∷ slice_index_or lower 4 [] ∷ slice_index_or lower 5 [] ∷ slice_index_or lower 6 [] ∷ slice_index_or lower 7 [] ∷ slice_index_or lower 8 [] ∷ slice_index_or lower 9 []
+    ∷ slice_index_or lower 10 [] ∷ slice_index_or lower 11 [] ∷ slice_index_or lower 12 [] ∷ slice_index_or lower 13 [] ∷ slice_index_or lower 14 [] ∷ slice_index_or lower 15 []
+    ∷ slice_index_or lower 16 [] ∷ []
 
 all_rows : rows upper_cells lower_cells ≡ the_cells
-unfolding rows the_cells upper_cells lower_cells
+unfolding the_cells upper_cells lower_cells
 all_rows = refl
 
--- an array of rows of both halves, one after the other
-abbrev pub AreRows : List (List (Option ℕ)) → List (List (Option ℕ)) → List (List (Option ℕ)) → Type 0
-AreRows upper lower cells = cells ≡ slice_index_or upper 0 [] ∷ slice_index_or upper 1 [] ∷ slice_index_or upper 2 [] ∷ slice_index_or upper 3 [] ∷ slice_index_or upper 4 [] ∷ slice_index_or upper 5 [] ∷ slice_index_or upper 6 [] ∷ slice_index_or upper 7 [] ∷ slice_index_or upper 8 [] ∷ slice_index_or upper 9 [] ∷ slice_index_or upper 10 [] ∷ slice_index_or upper 11 [] ∷ slice_index_or upper 12 [] ∷ slice_index_or upper 13 [] ∷ slice_index_or upper 14 [] ∷ slice_index_or upper 15 [] ∷ slice_index_or upper 16 [] ∷ slice_index_or lower 0 [] ∷ slice_index_or lower 1 [] ∷ slice_index_or lower 2 [] ∷ slice_index_or lower 3 [] ∷ slice_index_or lower 4 [] ∷ slice_index_or lower 5 [] ∷ slice_index_or lower 6 [] ∷ slice_index_or lower 7 [] ∷ slice_index_or lower 8 [] ∷ slice_index_or lower 9 [] ∷ slice_index_or lower 10 [] ∷ slice_index_or lower 11 [] ∷ slice_index_or lower 12 [] ∷ slice_index_or lower 13 [] ∷ slice_index_or lower 14 [] ∷ slice_index_or lower 15 [] ∷ slice_index_or lower 16 [] ∷ []
-
-pub is_table : (upper lower cells : List (List (Option ℕ))) → IsUpper upper → IsLower lower → AreRows upper lower cells → IsTable cells
-unfolding rows IsUpper IsLower IsTable
+pub is_table : (upper lower cells : List (List (Option ℕ))) → IsUpper upper → IsLower lower → cells ≡ rows upper lower → IsTable cells
+unfolding IsUpper IsLower IsTable
 is_table upper lower cells u l e = e ∙ ap (λ x. rows x lower) u ∙ ap (rows upper_cells) l ∙ all_rows

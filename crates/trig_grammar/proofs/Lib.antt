@@ -1,3 +1,4 @@
+pub mod Ranks
 pub mod Tests
 pub mod Computed
 pub mod Replacing

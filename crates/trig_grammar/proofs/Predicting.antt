@@ -1,6 +1,6 @@
 -- The table predicts right: the grammar is LL(1). What is computed of all productions and cells says so.
 use Rattle.std.proofs.Common.{◌≡◌, ℕ, suc, ◌+◌, true, ◌&&◌, ◌||◌, List, [], ◌∷◌, ◌++◌, Option, Some, None, ◌⊎◌, inl, inr, refl, sym, ap, subst, ◌∙◌, arith}
-use Rattle.std.proofs.lemmas.Bool.{eqb-true}
+use Rattle.std.proofs.lemmas.Bool.{and_from, eq-eqb, eqb-true, or_cases, or_left, or_right}
 use Rattle.rdf_terms.specs.Lists.{In}
 use Rattle.trig_lexer.specs.declared.kind.Kind.{Kind}
 use Rattle.trig_grammar.specs.declared.symbol.Symbol.{Symbol}
@@ -12,7 +12,7 @@ use Rattle.trig_grammar.specs.Places.{column, columns}
 use Rattle.trig_grammar.specs.Beginnings.{may_be_empty, first, follow, holds, are_empty, begin_with, predicts}
 use Rattle.trig_grammar.specs.Table.{rule_at, body_of, body_at, cell}
 use Rattle.trig_grammar.specs.Stack.{MayFollow, Fits}
-use Rattle.trig_grammar.proofs.Tests.{implies, every, modus, and_left, and_right, and_both, or_left, or_right, or_cases, same_number, every_in, every_held}
+use Rattle.trig_grammar.proofs.Tests.{implies, every, modus, and_left, and_right, every_in, every_held}
 use Rattle.trig_grammar.proofs.Computed.{all_close, all_empty, is_followed, all_followed, is_number, are_tied, all_tied, column_held, same_some}
 use Rattle.trig_grammar.proofs.Replacing.{sound}
 
@@ -24,8 +24,8 @@ split_begin k (Token kind ∷ body) symbols h = inl h
 split_begin k (Name n ∷ body) symbols h = elim (or_cases (holds k (first n)) _ h) [
   | inl e ↦ inl (or_left (holds k (first n)) _ e)
   | inr e ↦ elim (split_begin k body symbols (and_right (may_be_empty n) _ e)) [
-    | inl b ↦ inl (or_right (holds k (first n)) _ (and_both (may_be_empty n) _ (and_left (may_be_empty n) _ e) b))
-    | inr b ↦ inr (and_both (may_be_empty n) _ (and_left (may_be_empty n) _ e) b.0, b.1)
+    | inl b ↦ inl (or_right (holds k (first n)) _ (and_from (may_be_empty n) _ (and_left (may_be_empty n) _ e) b))
+    | inr b ↦ inr (and_from (may_be_empty n) _ (and_left (may_be_empty n) _ e) b.0, b.1)
   ]
 ]
 
@@ -38,10 +38,10 @@ pub of_empty : (r : Rule) → In r rules → are_empty r.body ≡ true → may_b
 of_empty r i h = modus (are_empty r.body) _ (every_in (λ r. implies (are_empty r.body) (may_be_empty r.head)) rules r all_empty i) h
 
 pub begins : {symbols : List Symbol} {kind : Kind} {kinds : List Kind} → Derives symbols (kind ∷ kinds) → begin_with (column kind) symbols ≡ true
-begins {kind} (takes d) = same_number (column kind)
+begins {kind} (takes d) = eq-eqb (column kind) (column kind) refl
 begins {kind} (expands {head} body {symbols} i d) = elim (split_begin (column kind) body symbols (begins d)) [
   | inl b ↦ or_left (holds (column kind) (first head)) _ (of_rule (rule head body) kind i b)
-  | inr b ↦ or_right (holds (column kind) (first head)) _ (and_both (may_be_empty head) _ (of_empty (rule head body) i b.0) b.1)
+  | inr b ↦ or_right (holds (column kind) (first head)) _ (and_from (may_be_empty head) _ (of_empty (rule head body) i b.0) b.1)
 ]
 
 -- ---- a stack whose names are followed by what may follow them
@@ -55,7 +55,7 @@ fits_behind head (Name n ∷ body) symbols closed may fits = (
       (and_left (implies (begin_with k body || (are_empty body && holds k (follow head))) (holds k (follow n))) _ (closed k held))
       (elim (split_begin k body symbols b) [
         | inl e ↦ or_left (begin_with k body) _ e
-        | inr e ↦ or_right (begin_with k body) _ (and_both (are_empty body) _ e.0 (may k held e.1))
+        | inr e ↦ or_right (begin_with k body) _ (and_from (are_empty body) _ e.0 (may k held e.1))
       ])),
   fits_behind head body symbols (λ k held. and_right (implies (begin_with k body || (are_empty body && holds k (follow head))) (holds k (follow n))) _ (closed k held)) may fits,
 )
@@ -82,7 +82,8 @@ tied_in base (x ∷ xs) r k h (inl e) held p = record {
   place = 0;
   at = ap Some (sym e);
   tied = subst (λ (n : ℕ). cell r.head k ≡ Some n) (omega arith) (number_is base (cell r.head k) (subst (λ y. is_number base (cell y.head k) ≡ true) (sym e)
-      (modus (predicts x k) _ (every_held (λ k. implies (predicts x k) (is_number base (cell x.head k))) columns k (and_left (every (λ k. implies (predicts x k) (is_number base (cell x.head k))) columns) _ h) held)
+      (modus (predicts x k) _ (every_held (λ k. implies (predicts x k) (is_number base (cell x.head k))) columns k
+      (and_left (every (λ k. implies (predicts x k) (is_number base (cell x.head k))) columns) _ h) held)
       (subst (λ y. predicts y k ≡ true) e p))));
 }
 tied_in base (x ∷ xs) r k h (inr i) held p =
@@ -104,7 +105,7 @@ pub predicted : {n : Nonterminal} {symbols : List Symbol} {kind : Kind} {kinds :
 predicted {n} {symbols} {kind} {kinds} fits (expands body i d) =
     let may = elim (split_begin (column kind) body symbols (begins d)) as (λ _. predicts (rule n body) (column kind) ≡ true) [
       | inl b ↦ or_left (begin_with (column kind) body) _ b
-      | inr b ↦ or_right (begin_with (column kind) body) _ (and_both (are_empty body) _ b.0 (fits.0 (column kind) (column_held kind) b.1))
+      | inr b ↦ or_right (begin_with (column kind) body) _ (and_from (are_empty body) _ b.0 (fits.0 (column kind) (column_held kind) b.1))
     ] in
     let by = predicted_by (rule n body) kind i may in
     (by.0, by.2, subst (λ found. Derives (body_of found ++ symbols) (kind ∷ kinds)) (sym by.1) d)

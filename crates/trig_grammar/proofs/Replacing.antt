@@ -10,7 +10,7 @@ use Rattle.trig_grammar.specs.Grammar.{Rule, rule, rules}
 use Rattle.trig_grammar.specs.Places.{column, row, columns}
 use Rattle.trig_grammar.specs.Beginnings.{first, holds}
 use Rattle.trig_grammar.specs.Table.{rule_at, body_of, body_at, cell}
-use Rattle.trig_grammar.specs.Ranks.{rank, replaced}
+use Rattle.trig_grammar.proofs.Ranks.{rank, replaced}
 use Rattle.trig_grammar.proofs.Tests.{and_left, and_right, every_held}
 use Rattle.trig_grammar.proofs.Computed.{column_held, has_head, is_sound, shrinks_to, shrinks, all_sound, all_shrink, same_some, same_row}
 
@@ -35,9 +35,7 @@ rule_found n kind p e =
 
 -- the production in a cell is one of its row
 pub sound : (n : Nonterminal) (kind : Kind) (p : ℕ) → cell n (column kind) ≡ Some p → In (rule n (body_at p)) rules
-sound n kind p e =
-    let checked : is_sound n (column kind) (cell n (column kind)) ≡ true = every_held (λ k. is_sound n k (cell n k)) columns (column kind) (all_sound n) (column_held kind) in
-    rule_in p (rule n (body_at p)) (headed n (rule_at rules p) (subst (λ c. is_sound n (column kind) c ≡ true) e checked))
+sound n kind p e = rule_in p (rule n (body_at p)) (rule_found n kind p e)
 
 at_below : (rs : List Rule) (p : ℕ) (r : Rule) → rule_at rs p ≡ Some r → p < length rs
 at_below [] p r e = cc
@@ -50,9 +48,7 @@ rules_count = refl
 
 pub number_below : (n : Nonterminal) (kind : Kind) (p : ℕ) → cell n (column kind) ≡ Some p → p < 70
 number_below n kind p e =
-    let checked : is_sound n (column kind) (cell n (column kind)) ≡ true = every_held (λ k. is_sound n k (cell n k)) columns (column kind) (all_sound n) (column_held kind) in
-    let at : rule_at rules p ≡ Some (rule n (body_of (rule_at rules p))) = headed n (rule_at rules p) (subst (λ c. is_sound n (column kind) c ≡ true) e checked) in
-    let less = at_below rules p (rule n (body_of (rule_at rules p))) at in
+    let less = at_below rules p (rule n (body_of (rule_at rules p))) (rule_found n kind p e) in
     omega (arith, less, rules_count)
 
 -- ---- the number of replacements decreases

@@ -1,13 +1,12 @@
 -- Where a name stands in right sides.
 use Rattle.std.proofs.Common.{◌≡◌, Bool, true, false, ◌||◌, ◌==◌, ◌⊎◌, inl, inr, List, [], ◌∷◌, ◌++◌, refl, sym, ap, ◌∙◌}
-use Rattle.std.proofs.lemmas.Bool.{eqb-true}
-use Rattle.rdf_terms.specs.Lists.{In}
+use Rattle.std.proofs.lemmas.Bool.{eqb-true, or_cases}
+use Rattle.rdf_terms.proofs.Common.{In, In-append}
 use Rattle.trig_grammar.specs.declared.symbol.Symbol.{Symbol}
 use Rattle.trig_grammar.specs.declared.symbol.Symbol.TheVariants.{Token, Name}
 use Rattle.trig_grammar.specs.declared.nonterminal.Nonterminal.{Nonterminal}
 use Rattle.trig_grammar.specs.Grammar.{Rule, rule}
 use Rattle.trig_grammar.specs.Places.{row}
-use Rattle.trig_grammar.proofs.Tests.{or_cases}
 use Rattle.trig_grammar.proofs.Computed.{same_row}
 
 -- ---- where a name stands in right sides
@@ -36,14 +35,6 @@ some_found f [] h = cc
 some_found f (r ∷ rs) h = elim (or_cases (f r) (some f rs) h) [
   | inl e ↦ (r, inl refl, e)
   | inr e ↦ let more = some_found f rs e in (more.0, inr more.1, more.2)
-]
-
-either_in : {A : Type 0} (x : A) (xs ys : List A) → In x (xs ++ ys) → In x xs ⊎ In x ys
-either_in x [] ys i = inr i
-either_in x (z ∷ xs) ys (inl e) = inl (inl e)
-either_in x (z ∷ xs) ys (inr i) = elim (either_in x xs ys i) [
-  | inl j ↦ inl (inr j)
-  | inr j ↦ inr j
 ]
 
 of_add : (b : Bool) (s r : Rule) (rs : List Rule) → In s (add b r rs) → ((b ≡ true) × (s ≡ r)) ⊎ In s rs
@@ -77,7 +68,7 @@ spot_in n head (Name m ∷ body) s i = elim (of_add (row m == row n) s (rule hea
 pub spot_of : (n : Nonterminal) (rs : List Rule) (s : Rule) → In s (spots n rs) → (front : List Symbol) × In (rule s.head (front ++ Name n ∷ s.body)) rs
 unfolding spots
 spot_of n [] s i = absurd i
-spot_of n (r ∷ rs) s i = elim (either_in s (spots_in n r.head r.body) (spots n rs) i) [
+spot_of n (r ∷ rs) s i = elim (In-append (spots_in n r.head r.body) (spots n rs) s i) [
   | inl j ↦
       let at = spot_in n r.head r.body s j in
       (at.front, inl (sym (ap (λ h. rule h r.body) (sym at.same) ∙ ap (λ xs. rule s.head xs) at.whole)))

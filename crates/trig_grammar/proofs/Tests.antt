@@ -1,6 +1,6 @@
 -- Tests that hold of all elements of a list.
-use Rattle.std.proofs.Common.{◌≡◌, ℕ, Bool, true, false, ◌&&◌, ◌||◌, ◌==◌, List, [], ◌∷◌, ◌⊎◌, inl, inr, refl, sym, subst, arith}
-use Rattle.std.proofs.lemmas.Bool.{eqb-true}
+use Rattle.std.proofs.Common.{◌≡◌, ℕ, Bool, true, false, ◌&&◌, ◌==◌, List, [], ◌∷◌, inl, inr, refl, sym, subst}
+use Rattle.std.proofs.lemmas.Bool.{eqb-true, or_cases}
 use Rattle.rdf_terms.specs.Lists.{In}
 use Rattle.trig_grammar.specs.Beginnings.{holds}
 
@@ -25,25 +25,6 @@ and_left true b h = refl
 pub and_right : (a b : Bool) → (a && b) ≡ true → b ≡ true
 and_right false b h = cc
 and_right true b h = h
-
-pub and_both : (a b : Bool) → a ≡ true → b ≡ true → (a && b) ≡ true
-and_both false b g h = g
-and_both true b g h = h
-
-pub or_left : (a b : Bool) → a ≡ true → (a || b) ≡ true
-or_left false b h = cc
-or_left true b h = refl
-
-pub or_right : (a b : Bool) → b ≡ true → (a || b) ≡ true
-or_right false b h = h
-or_right true b h = refl
-
-pub or_cases : (a b : Bool) → (a || b) ≡ true → (a ≡ true) ⊎ (b ≡ true)
-or_cases false b h = inr h
-or_cases true b h = inl refl
-
-pub same_number : (n : ℕ) → (n == n) ≡ true
-same_number n = search arith
 
 pub every_in : {A : Type 0} (f : A → Bool) (xs : List A) (x : A) → every f xs ≡ true → In x xs → f x ≡ true
 every_in f [] x h i = absurd i

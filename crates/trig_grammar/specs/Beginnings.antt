@@ -1,4 +1,5 @@
--- For each name, which kinds of tokens it may begin with and which may follow it in a sentence, and so which production is the one to take.
+-- For each name, which kinds of tokens it may begin with and which may follow it in a sentence, and so which production
+-- is the one to take.
 use Rattle.std.specs.Prelude.{ℕ, Bool, true, false, ◌&&◌, ◌||◌, ◌==◌, List, [], ◌∷◌}
 use Rattle.trig_grammar.specs.declared.symbol.Symbol.{Symbol}
 use Rattle.trig_grammar.specs.declared.symbol.Symbol.TheVariants.{Token, Name}
@@ -10,39 +11,15 @@ use Rattle.trig_grammar.specs.Places.{column}
 -- the name may stand for nothing
 abbrev pub may_be_empty : Nonterminal → Bool
 may_be_empty Document = true
-may_be_empty Statement = false
-may_be_empty Block = false
-may_be_empty TriplesOrGraph = false
-may_be_empty AfterLabel = false
-may_be_empty Triples2 = false
-may_be_empty WrappedGraph = false
 may_be_empty MaybeTriples = true
-may_be_empty TriplesBlock = false
 may_be_empty MoreTriples = true
-may_be_empty LabelOrSubject = false
-may_be_empty Directive = false
-may_be_empty PrefixId = false
-may_be_empty Base = false
-may_be_empty SparqlPrefix = false
-may_be_empty SparqlBase = false
-may_be_empty Triples = false
 may_be_empty MaybePredicates = true
-may_be_empty Predicates = false
 may_be_empty MorePredicates = true
 may_be_empty MaybePredicate = true
-may_be_empty Objects = false
 may_be_empty MoreObjects = true
-may_be_empty Verb = false
-may_be_empty Subject = false
-may_be_empty Object = false
-may_be_empty Literal = false
-may_be_empty RdfLiteral = false
 may_be_empty Suffix = true
-may_be_empty PropertyList = false
-may_be_empty Collection = false
 may_be_empty Items = true
-may_be_empty Iri = false
-may_be_empty BlankNode = false
+may_be_empty _ = false
 
 -- the columns of the kinds that what stands for the name may begin with
 abbrev pub first : Nonterminal → List ℕ
@@ -116,7 +93,8 @@ follow PropertyList = 5 ∷ 6 ∷ 7 ∷ 8 ∷ 9 ∷ 10 ∷ 13 ∷ 14 ∷ 15 ∷ 
 follow Collection = 5 ∷ 6 ∷ 7 ∷ 8 ∷ 9 ∷ 10 ∷ 13 ∷ 14 ∷ 15 ∷ 16 ∷ 17 ∷ 18 ∷ 19 ∷ 20 ∷ 21 ∷ 22 ∷ 23 ∷ 24 ∷ 25 ∷ 26 ∷ []
 follow Items = 17 ∷ []
 follow Iri = 5 ∷ 6 ∷ 7 ∷ 8 ∷ 9 ∷ 10 ∷ 12 ∷ 13 ∷ 14 ∷ 15 ∷ 16 ∷ 17 ∷ 18 ∷ 19 ∷ 20 ∷ 21 ∷ 22 ∷ 23 ∷ 24 ∷ 25 ∷ 26 ∷ []
-follow BlankNode = 5 ∷ 6 ∷ 7 ∷ 8 ∷ 9 ∷ 10 ∷ 12 ∷ 13 ∷ 14 ∷ 15 ∷ 16 ∷ 17 ∷ 18 ∷ 19 ∷ 20 ∷ 21 ∷ 22 ∷ 23 ∷ 24 ∷ 25 ∷ 26 ∷ []
+follow BlankNode =
+    5 ∷ 6 ∷ 7 ∷ 8 ∷ 9 ∷ 10 ∷ 12 ∷ 13 ∷ 14 ∷ 15 ∷ 16 ∷ 17 ∷ 18 ∷ 19 ∷ 20 ∷ 21 ∷ 22 ∷ 23 ∷ 24 ∷ 25 ∷ 26 ∷ []
 
 abbrev pub holds : ℕ → List ℕ → Bool
 holds k [] = false

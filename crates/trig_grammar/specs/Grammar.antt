@@ -1,4 +1,5 @@
--- The grammar of TriG (RDF 1.1 TriG, section 4.5) in productions without operators: what is optional, repeated or one of several has a name and a production for each way.
+-- The grammar of TriG (RDF 1.1 TriG, section 4.5) in productions without operators: what is optional, repeated or one
+-- of several has a name and a production for each way.
 use Rattle.std.specs.Prelude.{List, [], ◌∷◌, ◌++◌}
 use Rattle.rdf_terms.specs.Lists.{In}
 use Rattle.trig_lexer.specs.declared.kind.Kind.{Kind}
@@ -91,10 +92,12 @@ rules =
     ∷ rule BlankNode (Token Anon ∷ [])
     ∷ []
 
--- The tokens of these kinds may stand for the symbols, one part after the other: each name is replaced by one of its right sides.
+-- The tokens of these kinds may stand for the symbols, one part after the other: each name is replaced by one of its
+-- right sides.
 pub data Derives : List Symbol → List Kind → Type 0 where
   nothing : Derives [] []
-  takes : {kind : Kind} {symbols : List Symbol} {kinds : List Kind} → Derives symbols kinds → Derives (Token kind ∷ symbols) (kind ∷ kinds)
+  takes : {kind : Kind} {symbols : List Symbol} {kinds : List Kind} → Derives symbols kinds
+      → Derives (Token kind ∷ symbols) (kind ∷ kinds)
   expands : {head : Nonterminal} (body : List Symbol) {symbols : List Symbol} {kinds : List Kind}
       → In (rule head body) rules → Derives (body ++ symbols) kinds → Derives (Name head ∷ symbols) kinds
 

@@ -2,7 +2,6 @@ pub mod Grammar
 pub mod Places
 pub mod Beginnings
 pub mod Table
-pub mod Ranks
 pub mod Stack
 pub mod Published
 pub mod Reach

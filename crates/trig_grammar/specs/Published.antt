@@ -44,9 +44,12 @@ pub data Expression : Type 0 where
 
 abbrev pub is : Part → Expression
 is trigDoc = many (part directive ∣ part block)
-is block = part triplesOrGraph ∣ part wrappedGraph ∣ part triples2 ∣ token WordGraph ⨾ part labelOrSubject ⨾ part wrappedGraph
+is block =
+    part triplesOrGraph ∣ part wrappedGraph ∣ part triples2 ∣ token WordGraph ⨾ part labelOrSubject ⨾ part wrappedGraph
 is triplesOrGraph = part labelOrSubject ⨾ (part wrappedGraph ∣ part predicateObjectList ⨾ token Dot)
-is triples2 = part blankNodePropertyList ⨾ maybe (part predicateObjectList) ⨾ token Dot ∣ part collection ⨾ part predicateObjectList ⨾ token Dot
+is triples2 =
+    part blankNodePropertyList ⨾ maybe
+    (part predicateObjectList) ⨾ token Dot ∣ part collection ⨾ part predicateObjectList ⨾ token Dot
 is wrappedGraph = token LeftBrace ⨾ maybe (part triplesBlock) ⨾ token RightBrace
 is triplesBlock = part triples ⨾ maybe (token Dot ⨾ maybe (part triplesBlock))
 is labelOrSubject = part iri ∣ part blankNode
@@ -72,13 +75,15 @@ is blankNode = token BlankLabel ∣ token Anon
 pub data Tree : Expression → List Kind → List Kind → Type 0 where
   leaf : {kind : Kind} {rest : List Kind} → Tree (token kind) (kind ∷ rest) rest
   node : {name : Part} {all rest : List Kind} → Tree (is name) all rest → Tree (part name) all rest
-  both : {one other : Expression} {all middle rest : List Kind} → Tree one all middle → Tree other middle rest → Tree (one ⨾ other) all rest
+  both : {one other : Expression} {all middle rest : List Kind} → Tree one all middle → Tree other middle rest
+      → Tree (one ⨾ other) all rest
   first : {one other : Expression} {all rest : List Kind} → Tree one all rest → Tree (one ∣ other) all rest
   second : {one other : Expression} {all rest : List Kind} → Tree other all rest → Tree (one ∣ other) all rest
   without : {one : Expression} {all : List Kind} → Tree (maybe one) all all
   with : {one : Expression} {all rest : List Kind} → Tree one all rest → Tree (maybe one) all rest
   no_more : {one : Expression} {all : List Kind} → Tree (many one) all all
-  one_more : {one : Expression} {all middle rest : List Kind} → Tree one all middle → Tree (many one) middle rest → Tree (many one) all rest
+  one_more : {one : Expression} {all middle rest : List Kind} → Tree one all middle → Tree (many one) middle rest
+      → Tree (many one) all rest
 
 -- the leaves of some tree of the grammar, and the end
 abbrev pub IsPublishedSentence : List Kind → Type 0

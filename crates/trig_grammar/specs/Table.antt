@@ -49,4 +49,5 @@ cell n k = slice_index_or (slice_index_or the_cells (row n) []) k None
 
 -- the production of this number is one of the name, and the one to take before a token of this kind
 abbrev pub Predicts : Nonterminal → Kind → ℕ → Type 0
-Predicts n kind p = (body : List Symbol) × (rule_at rules p ≡ Some (rule n body)) × (predicts (rule n body) (column kind) ≡ true)
+Predicts n kind p =
+    (body : List Symbol) × (rule_at rules p ≡ Some (rule n body)) × (predicts (rule n body) (column kind) ≡ true)

@@ -2,7 +2,7 @@ use Rattle.std.proofs.Common.{◌↔◌, List, ◌∷◌, reverse}
 use Rattle.trig_lexer.specs.declared.kind.Kind.{Kind}
 use Rattle.trig_grammar.specs.Grammar.{Derives}
 use Rattle.trig_grammar.specs.Places.{column}
-use Rattle.trig_grammar.specs.Ranks.{replaced}
+use Rattle.trig_grammar.proofs.Ranks.{replaced}
 use Rattle.trig_grammar.specs.Stack.{Fits}
 use Rattle.trig_grammar.proofs.machine.take.Given as goal
 

@@ -3,7 +3,7 @@ use Rattle.std.specs.Prelude.{ℕ, suc, List, [], ◌∷◌, if◌then◌else◌
 use Rattle.trig_grammar.specs.declared.symbol.Symbol.{Symbol}
 use Rattle.trig_grammar.specs.declared.symbol.Symbol.TheVariants.{Token, Name}
 use Rattle.trig_grammar.specs.declared.nonterminal.Nonterminal.{Nonterminal}
-use Rattle.trig_grammar.specs.declared.nonterminal.Nonterminal.TheVariants.{Document, Statement, Block, TriplesOrGraph, AfterLabel, Triples2, WrappedGraph, MaybeTriples, TriplesBlock, MoreTriples, LabelOrSubject, Directive, PrefixId, Base, SparqlPrefix, SparqlBase, Triples, MaybePredicates, Predicates, MorePredicates, MaybePredicate, Objects, MoreObjects, Verb, Subject, Object, Literal, RdfLiteral, Suffix, PropertyList, Collection, Items, Iri, BlankNode}
+use Rattle.trig_grammar.specs.declared.nonterminal.Nonterminal.TheVariants.{Document, Statement, Block, TriplesOrGraph, AfterLabel, Triples2, MaybeTriples, TriplesBlock, LabelOrSubject, Directive, Triples, MaybePredicates, Predicates, MaybePredicate, Objects, Verb, Subject, Object, Literal, Items}
 use Rattle.trig_grammar.specs.Beginnings.{first, holds}
 
 -- ---- how many names are replaced before a token is taken
@@ -16,36 +16,24 @@ rank Block = 3
 rank TriplesOrGraph = 2
 rank AfterLabel = 3
 rank Triples2 = 1
-rank WrappedGraph = 0
 rank MaybeTriples = 4
 rank TriplesBlock = 3
-rank MoreTriples = 0
 rank LabelOrSubject = 1
 rank Directive = 1
-rank PrefixId = 0
-rank Base = 0
-rank SparqlPrefix = 0
-rank SparqlBase = 0
 rank Triples = 2
 rank MaybePredicates = 3
 rank Predicates = 2
-rank MorePredicates = 0
 rank MaybePredicate = 2
 rank Objects = 3
-rank MoreObjects = 0
 rank Verb = 1
 rank Subject = 1
 rank Object = 2
 rank Literal = 1
-rank RdfLiteral = 0
-rank Suffix = 0
-rank PropertyList = 0
-rank Collection = 0
 rank Items = 3
-rank Iri = 0
-rank BlankNode = 0
+rank _ = 0
 
--- before a token of this column: each name that may begin with it gives way to one of lower rank, and any other to nothing
+-- before a token of this column: each name that may begin with it gives way to one of lower rank, and any other to
+-- nothing
 abbrev pub replaced : ℕ → List Symbol → ℕ
 replaced k [] = 0
 replaced k (Token kind ∷ symbols) = 0
