@@ -1,13 +1,11 @@
 -- What was told stays told as labels come behind those that are there.
 use Rattle.std.proofs.Common.{◌≡◌, ℕ, zero, suc, ◌<◌, ◌≤◌, List, [], ◌∷◌, ◌++◌, Option, Some, None, IfSome, slice_get, length, inl, inr, refl, sym, ap, subst, ◌∙◌, arith, length-append, append_assoc, append-nil}
 use Rattle.std.specs.List.{AllZip}
-use Rattle.rdf_terms.specs.Terms.{Statement, IsIri, IsValidTerm}
-use Rattle.rdf_terms.specs.Document.{Adds, AddsAll, Extends}
+use Rattle.rdf_terms.proofs.Common.{Statement, IsIri, IsValidTerm, Adds, AddsAll, Extends, Extends-adds}
 use Rattle.rdf_terms.specs.declared.term.Term.{Term}
 use Rattle.rdf_terms.specs.declared.term.Term.TheVariants.{Iri as IriTerm, Blank, Literal as LiteralTerm}
 use Rattle.rdf_terms.specs.declared.term.Label.{Label}
 use Rattle.rdf_terms.proofs.AddingAll.{AddsAll-push}
-use Rattle.rdf_terms.proofs.Membership.{Extends-adds}
 use Rattle.trig_terms.specs.Meaning.{Said, StatedQuad, Told, Place, mention}
 use Rattle.trig_terms.specs.Meaning.Said.{Iri, Node, Literal}
 use Rattle.trig_terms.specs.Meaning.Place.{AtSubject, AtVerb, AtObject, InItems, AtItem, AtPrefixName, AtPrefixIri, AtBaseIri}
@@ -81,7 +79,7 @@ drafted_grows old new quads drafted e h = record {
   all_or_full = h.all_or_full;
 }
 
--- ---- what holds at each time, with more nodes
+-- ---- what holds at each time, with more blank nodes
 
 name_grows : (m n : ℕ) (t : Term) → m ≤ n → IsName m t → IsName n t
 name_grows m n (IriTerm text) le h = h
@@ -114,7 +112,7 @@ sound_place_grows m n BaseIri le h = tt
 pub more_labels : (old new : List Label) → Extends old new → length old ≤ length new
 more_labels old new e = subst (λ ls. length old ≤ length ls) (sym e.1) (omega (arith, length-append old e.0))
 
--- ---- a node is mentioned
+-- ---- a blank node is mentioned
 
 pub sound_mention : (v : View) (labels : List Label) (said : List Statement) (opened : ℕ) → Extends v.labels labels → IsSound v → IsSound (record v { labels = labels; said = said; opened = opened })
 sound_mention v labels said opened e h =
@@ -139,7 +137,8 @@ tells_mention v t label labels adds h =
 
 -- ---- a quad is said
 
-pub drafted_said : (labels : List Label) (quads : List StatedQuad) (quad : StatedQuad) (drafted new : List Statement) (st : Statement) → IsDrafted labels quads drafted → IsStatementOf labels quad st → Says drafted st new
+pub drafted_said : (labels : List Label) (quads : List StatedQuad) (quad : StatedQuad) (drafted new : List Statement) (st : Statement) → IsDrafted labels quads drafted → IsStatementOf labels quad st
+    → Says drafted st new
     → IsDrafted labels (quads ++ quad ∷ []) new
 drafted_said labels quads quad drafted new st h is (inl (few, adds)) =
     let all : h.passed_over ≡ [] = elim h.all_or_full [ inl e ↦ e | inr full ↦ absurd (omega (arith, few, full)) ] in
@@ -154,7 +153,8 @@ drafted_said labels quads quad drafted new st h is (inl (few, adds)) =
 drafted_said labels quads quad drafted new st h is (inr (full, same)) = record {
   front = h.front;
   passed_over = h.passed_over ++ st ∷ [];
-  numbers = subst (AllZip (IsStatementOf labels) (quads ++ quad ∷ [])) (append_assoc h.front h.passed_over (st ∷ [])) (zip_push (IsStatementOf labels) quads (h.front ++ h.passed_over) quad st h.numbers is);
+  numbers =
+      subst (AllZip (IsStatementOf labels) (quads ++ quad ∷ [])) (append_assoc h.front h.passed_over (st ∷ [])) (zip_push (IsStatementOf labels) quads (h.front ++ h.passed_over) quad st h.numbers is);
   adds = subst (AddsAll [] h.front) (sym same) h.adds;
   all_or_full = inr (subst (λ sts. MAX_QUADS < length sts) (sym same) full);
 }

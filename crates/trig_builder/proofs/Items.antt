@@ -1,15 +1,12 @@
--- What it does that nodes are mentioned and opened, and cells of collections.
+-- What it does that blank nodes are mentioned and opened, and cells of collections.
 use Rattle.std.proofs.Common.{◌≡◌, ℕ, ◌<◌, ◌+◌, List, [], ◌∷◌, ◌++◌, Option, Some, None, MatchOption, unwrap_or, option_to_list, inl, inr, length, reverse, slice_get, codes, refl, sym, ap, subst, ◌∙◌, arith}
 use Rattle.std.specs.List.{AllZip}
 use Rattle.std.proofs.lemmas.List.{reverse-append}
 use Rattle.std.proofs.lemmas.Option.{slice_get_within}
-use Rattle.rdf_terms.specs.Lists.{In}
-use Rattle.rdf_terms.specs.Terms.{Statement}
-use Rattle.rdf_terms.specs.Document.{Adds, Extends, Interns}
+use Rattle.rdf_terms.proofs.Common.{In, Statement, Adds, Extends, Interns, Extends-adds}
 use Rattle.rdf_terms.specs.declared.term.Term.TheVariants.{Iri as IriTerm, Blank}
 use Rattle.rdf_terms.specs.declared.term.Label.{Label}
 use Rattle.rdf_terms.specs.declared.term.Label.TheVariants.{Anonymous}
-use Rattle.rdf_terms.proofs.Membership.{Extends-adds}
 use Rattle.trig_terms.specs.Meaning.{Said, Told, Place, say, rdf, rdf_rest, rdf_nil, next_cell, next_node, next_verb_in, open_node, mention, leave, leave_to}
 use Rattle.trig_terms.specs.Meaning.Place.{AtSubject, AtVerb, AtObject, InItems, AtItem, AtPrefixName, AtPrefixIri, AtBaseIri}
 use Rattle.trig_builder.specs.declared.place.Place.{Place as HeldPlace}
@@ -19,7 +16,7 @@ use Rattle.trig_builder.specs.Telling.{View, IsSound, IsSoundPlace, without_verb
 use Rattle.trig_builder.proofs.Growth.{sound_mention, tells_mention}
 use Rattle.trig_builder.proofs.Putting.{quad_told, sound_said}
 
--- ---- nodes
+-- ---- blank nodes
 
 pub label_within : (old labels : List Label) (label : Label) (n : ℕ) → Interns old labels label n → n < length labels
 label_within old labels label n i = slice_get_within labels n label i.at
@@ -27,7 +24,8 @@ label_within old labels label n i = slice_get_within labels n label i.at
 pub label_grown : (old labels : List Label) (label : Label) (n : ℕ) → Interns old labels label n → Extends old labels
 label_grown old labels label n i = Extends-adds old label labels i.adds
 
-pub mention_sound : (v : View) (labels : List Label) (said : List Statement) (opened n : ℕ) (label : Label) → Interns v.labels labels label n → IsSound v → IsSound (record v { labels = labels; said = said; opened = opened })
+pub mention_sound : (v : View) (labels : List Label) (said : List Statement) (opened n : ℕ) (label : Label) → Interns v.labels labels label n → IsSound v
+    → IsSound (record v { labels = labels; said = said; opened = opened })
 mention_sound v labels said opened n label i h = sound_mention v labels said opened (label_grown v.labels labels label n i) h
 
 pub mention_told : (v : View) (t : Told) (labels : List Label) (said : List Statement) (n : ℕ) (label : Label) → Interns v.labels labels label n → said ≡ v.said → Tells v t
@@ -78,7 +76,8 @@ later_told v t last cell before node labels new same k is says h =
       drafted = told.drafted;
     }
 
-pub later_sound : (v : View) (node : ℕ) (labels : List Label) (new : List Statement) → labels ≡ v.labels → node < length v.labels → IsSound v → IsSound (record v { labels = labels; said = new; place = Item node })
+pub later_sound : (v : View) (node : ℕ) (labels : List Label) (new : List Statement) → labels ≡ v.labels → node < length v.labels → IsSound v
+    → IsSound (record v { labels = labels; said = new; place = Item node })
 later_sound v node labels new same less h =
     let s = sound_said v labels new same h in
     record { graph_name = s.graph_name; place = subst (λ ls. node < length ls) (sym same) less; outer = s.outer }
@@ -127,7 +126,8 @@ last_told v t last cell labels new same k says h = quad_told v t last rdf_rest r
 with_place : (v : View) (t : Told) (was : Place) (p : HeldPlace) (q : Place) → IsPlace v.labels p q → Tells v (record t { place = was }) → Tells (record v { place = p }) (record t { place = q })
 with_place v t was p q here h = record { place = here; outer = h.outer; graph_name = h.graph_name; opened = h.opened; labels = h.labels; drafted = h.drafted }
 
-without_verb_told : (v : View) (t : Told) (p : HeldPlace) (q : Place) → IsPlace v.labels p q → Tells v (record t { place = q }) → Tells (record v { place = without_verb p }) (next_verb_in q (record t { place = q }))
+without_verb_told : (v : View) (t : Told) (p : HeldPlace) (q : Place) → IsPlace v.labels p q → Tells v (record t { place = q })
+    → Tells (record v { place = without_verb p }) (next_verb_in q (record t { place = q }))
 without_verb_told v t (Verb s) (AtVerb subject) here h = with_place v t (AtVerb subject) (Verb s) (AtVerb subject) here h
 without_verb_told v t (Object s w) (AtObject subject verb) here h = with_place v t (AtObject subject verb) (Verb s) (AtVerb subject) here.0 h
 without_verb_told v t (Items n) (InItems cell) here h = with_place v t (InItems cell) (Items n) (InItems cell) here h
@@ -174,16 +174,19 @@ pub record IsPopped (old new : List HeldPlace) (popped : Option HeldPlace) (old_
   pub old_len_is : length old ≡ old_len
   pub new_len_is : length new ≡ new_len
 
-pub left_told : (v : View) (t : Told) (old new : List HeldPlace) (popped : Option HeldPlace) (place : HeldPlace) (old_len new_len : ℕ) → v.outer ≡ reverse old → IsPopped old new popped old_len new_len → place ≡ unwrap_or popped Subject → Tells v t
+pub left_told : (v : View) (t : Told) (old new : List HeldPlace) (popped : Option HeldPlace) (place : HeldPlace) (old_len new_len : ℕ) → v.outer ≡ reverse old → IsPopped old new popped old_len new_len
+    → place ≡ unwrap_or popped Subject → Tells v t
     → Tells (record v { place = place; outer = reverse new }) (leave t)
 left_told v t old new None place old_len new_len o i is h =
     let none : new ≡ [] = empty new (i.new_len_is ∙ i.cases.1) in
     let all : v.outer ≡ [] = o ∙ ap reverse (empty old (i.old_len_is ∙ i.cases.0)) in
-    subst (λ q. Tells (record v { place = q; outer = reverse new }) (leave t)) (sym is) (subst (λ ps. Tells (record v { place = Subject; outer = reverse ps }) (leave t)) (sym none) (leave_none_told v t all h))
+    subst (λ q. Tells (record v { place = q; outer = reverse new }) (leave t)) (sym is) (subst (λ ps. Tells (record v { place = Subject; outer = reverse ps }) (leave t)) (sym none)
+    (leave_none_told v t all h))
 left_told v t old new (Some p) place old_len new_len o i is h =
     subst (λ q. Tells (record v { place = q; outer = reverse new }) (leave t)) (sym is) (leave_told v t p (reverse new) (o ∙ ap reverse i.items ∙ last_first new p) h)
 
-pub left_sound : (v : View) (old new : List HeldPlace) (popped : Option HeldPlace) (place : HeldPlace) (old_len new_len : ℕ) → v.outer ≡ reverse old → IsPopped old new popped old_len new_len → place ≡ unwrap_or popped Subject → IsSound v
+pub left_sound : (v : View) (old new : List HeldPlace) (popped : Option HeldPlace) (place : HeldPlace) (old_len new_len : ℕ) → v.outer ≡ reverse old → IsPopped old new popped old_len new_len
+    → place ≡ unwrap_or popped Subject → IsSound v
     → IsSound (record v { place = place; outer = reverse new })
 left_sound v old new None place old_len new_len o i is h = record {
   graph_name = h.graph_name;

@@ -1,4 +1,3 @@
-pub mod Names
 pub mod Growth
 pub mod Putting
 pub mod Items

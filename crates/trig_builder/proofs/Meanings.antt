@@ -2,8 +2,7 @@
 use Rattle.std.proofs.Common.{◌≡◌, Bool, true, false, List, [], ◌∷◌, ◌++◌, Option, Some, None, IfSome, is_some, All, refl, sym, ap, subst, ◌∙◌, append_assoc, append-nil}
 use Rattle.std.proofs.lemmas.Bool.{false≢true}
 use Rattle.std.proofs.lemmas.List.Elements.{All-append}
-use Rattle.rdf_terms.specs.Lists.{Text}
-use Rattle.rdf_terms.specs.Terms.{HasScheme, is_excluded}
+use Rattle.rdf_terms.proofs.Common.{Text, HasScheme, is_excluded}
 use Rattle.rdf_terms.specs.declared.term.Label.{Label}
 use Rattle.iri_resolve.specs.Scheme.{begins_with_scheme}
 use Rattle.iri_resolve.proofs.Schemes.{begins_with_scheme-HasScheme}
@@ -19,7 +18,8 @@ use Rattle.trig_builder.specs.Telling.{IsPlace}
 use Rattle.trig_builder.specs.Building.{IsWhole, undefined_of}
 
 -- where no directive names a prefix, PNAME_NS is met as a name
-pub met_as_name : (labels : List Label) (p : HeldPlace) (q : Place) → IsPlace labels p q → ¬ (p ≡ PrefixName) → (prefix : Text) (s : State) → meet_iri (looked_up s.prefixes prefix) NoPrefix s ≡ meet_namespace_in q prefix s
+pub met_as_name : (labels : List Label) (p : HeldPlace) (q : Place) → IsPlace labels p q → ¬ (p ≡ PrefixName) → (prefix : Text) (s : State)
+    → meet_iri (looked_up s.prefixes prefix) NoPrefix s ≡ meet_namespace_in q prefix s
 met_as_name labels PrefixName q h isnt prefix s = absurd (isnt refl)
 met_as_name labels Subject AtSubject h isnt prefix s = refl
 met_as_name labels (Verb t) (AtVerb subject) h isnt prefix s = refl

@@ -1,17 +1,26 @@
 -- How what the builder holds stands for how far the document has come.
-use Rattle.std.specs.Prelude.{◌≡◌, false, Option, Some, None, All, IfSome}
-use Rattle.rdf_terms.specs.Lists.{Text}
-use Rattle.rdf_terms.specs.Terms.{HasScheme, is_excluded}
+use Rattle.std.specs.Prelude.{◌≡◌, Bool, true, false, Option, Some, None, All, IfSome}
+use Rattle.std.specs.HashMap.{get_by_text}
+use Rattle.rdf_terms.specs.Vocabulary.{Text, HasScheme, is_excluded}
 use Rattle.trig_terms.specs.Meaning.{State, Pending, Undefined, looked_up}
 use Rattle.trig_terms.specs.Meaning.Pending.{Plain, AwaitsType}
 use Rattle.trig_terms.specs.Meaning.Undefined.{NoPrefix, NoBase}
 use Rattle.trig_builder.specs.declared.builder.Builder.{Builder}
 use Rattle.trig_builder.specs.declared.builder.Missing.{Missing}
 use Rattle.trig_builder.specs.declared.builder.Missing.TheVariants.{Prefix, Base}
+use Rattle.trig_builder.specs.declared.prefixes.Prefixes.{Prefixes}
 use Rattle.trig_builder.specs.declared.pending.Pending.{Pending as PendingString}
 use Rattle.trig_builder.specs.declared.pending.Pending.TheVariants.{Plain as PlainString, AwaitsType as TypedString}
-use Rattle.trig_builder.specs.Prefixes.{defined}
 use Rattle.trig_builder.specs.Telling.{view_of, IsSound, Tells}
+
+-- what the prefix was last set to
+abbrev pub defined : Prefixes → Text → Option Text
+defined p prefix = get_by_text p.iris prefix
+
+-- what a name stands for, if its prefix is set
+abbrev pub if_set : Bool → Text → Option Text
+if_set true iri = Some iri
+if_set false iri = None
 
 -- a text with a scheme, in which no character stands that an IRI may not have (RDF 1.1 TriG, section 4.5, IRIREF)
 pub record IsWhole (text : Text) : Type 0 where

@@ -1,7 +1,6 @@
--- What is said, by the numbers of its nodes (RDF 1.1 TriG, section 5).
+-- What is said, by the numbers of its blank nodes (RDF 1.1 TriG, section 5).
 use Rattle.std.specs.Prelude.{◌≡◌, ◌⊎◌, ◌<◌, ◌≤◌, ℕ, List, Option, Some, None, length, slice_get}
-use Rattle.rdf_terms.specs.Terms.{Statement, IsIriOrBlank, IsValidTerm}
-use Rattle.rdf_terms.specs.Document.{Adds}
+use Rattle.rdf_terms.specs.Vocabulary.{Statement, IsIriOrBlank, IsValidTerm, Adds}
 use Rattle.rdf_terms.specs.declared.term.Term.{Term}
 use Rattle.rdf_terms.specs.declared.term.Term.TheVariants.{Iri as IriTerm, Blank, Literal as LiteralTerm}
 use Rattle.rdf_terms.specs.declared.term.Label.{Label}
@@ -9,7 +8,7 @@ use Rattle.trig_terms.specs.Meaning.{Said, StatedQuad}
 use Rattle.trig_terms.specs.Meaning.Said.{Iri, Node, Literal}
 use Rattle.trig_builder.specs.declared.TheConstants.{MAX_QUADS}
 
--- the term for what is said, where node n has label n
+-- the term for what is said, where blank node n has label n
 abbrev pub IsTermOf : List Label → Said → Term → Type 0
 IsTermOf labels (Iri text) term = term ≡ IriTerm text
 IsTermOf labels (Node label) term = (n : ℕ) × (slice_get labels n ≡ Some label) × (term ≡ Blank n)

@@ -1,9 +1,7 @@
--- How what is held by numbers of nodes stands for what has been told.
+-- How what is held by numbers of blank nodes stands for what has been told.
 use Rattle.std.specs.Prelude.{◌≡◌, ◌⊎◌, ◌<◌, ℕ, List, [], ◌++◌, Option, Some, None, IfSome, reverse, length}
 use Rattle.std.specs.List.{AllZip}
-use Rattle.rdf_terms.specs.Lists.{In}
-use Rattle.rdf_terms.specs.Terms.{Statement, IsIri, IsValidTerm}
-use Rattle.rdf_terms.specs.Document.{AddsAll, Document, statements}
+use Rattle.rdf_terms.specs.Vocabulary.{In, Statement, IsIri, IsValidTerm, AddsAll, Document, statements}
 use Rattle.rdf_terms.specs.declared.term.Term.{Term}
 use Rattle.rdf_terms.specs.declared.term.Term.TheVariants.{Blank}
 use Rattle.rdf_terms.specs.declared.term.Label.{Label}
@@ -50,7 +48,7 @@ without_verb place = place
 
 -- ---- what is so at each time, whatever was told
 
--- a subject is a name, a verb a valid IRI, and a cell one of so many nodes
+-- a subject is a name, a verb a valid IRI, and a cell one of so many blank nodes
 abbrev pub IsSoundPlace : ℕ → HeldPlace → Type 0
 IsSoundPlace nodes (Verb subject) = IsName nodes subject
 IsSoundPlace nodes (Object subject verb) = IsName nodes subject × (IsIri verb × IsValidTerm nodes verb)
@@ -81,7 +79,8 @@ IsPlace labels PrefixIri AtPrefixIri = Unit {0}
 IsPlace labels BaseIri AtBaseIri = Unit {0}
 IsPlace labels _ _ = ⊥
 
--- All that was said is there, each once; or there is more than a document may have of what was said up to some quad, and the rest was passed over.
+-- All that was said is there, each once; or there is more than a document may have of what was said up to some quad,
+-- and the rest was passed over.
 pub record IsDrafted (labels : List Label) (quads : List StatedQuad) (drafted : List Statement) : Type 0 where
   pub front : List Statement
   pub passed_over : List Statement
@@ -97,7 +96,8 @@ pub record Tells (v : View) (t : Told) : Type 0 where
   pub labels : AddsAll [] t.mentioned v.labels
   pub drafted : IsDrafted v.labels t.quads v.said
 
--- the draft holds what was said: its nodes are those that were mentioned, in the order of their first mention, and its quads those that were said, each once
+-- the draft holds what was said: its blank nodes are those that were mentioned, in the order of their first mention,
+-- and its quads those that were said, each once
 pub record Drafts (d : Document) (t : Told) : Type 0 where
   pub labels : AddsAll [] t.mentioned d.labels
   pub drafted : IsDrafted d.labels t.quads (statements d)

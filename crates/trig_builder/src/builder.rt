@@ -12,22 +12,20 @@ ghost use Rattle.trig_terms.specs.Meaning.Pending.{Plain};
 ghost use Rattle.trig_terms.specs.Meaning.Undefined.{NoPrefix, NoBase};
 ghost use Rattle.trig_terms.specs.declared.leaf.Leaf.TheVariants.{Mark as MarkLeaf, Typed as TypedLeaf, Quoted as QuotedLeaf};
 ghost use Rattle.trig_builder.specs.Telling.{Drafts};
-ghost use Rattle.trig_builder.specs.Prefixes.{defined, if_set};
-ghost use Rattle.trig_builder.specs.Building.{IsReady, Builds, IsWhole, undefined_of};
+ghost use Rattle.trig_builder.specs.Building.{defined, if_set, IsReady, Builds, IsWhole, undefined_of};
 
 use crate::pending::Pending;
 use crate::place::Place;
 use crate::prefixes::Prefixes;
 use crate::telling::Telling;
 use iri_resolve::{has_scheme, resolve};
-use rdf_terms::{Draft, LiteralKindRef, LiteralRef, NoMemory, TermRef, TermText};
+use rdf_terms::{Draft, LiteralKindRef, LiteralRef, NoMemory, TermRef, TermText, xsd};
 use std::alloc::Global;
 use std::hash::RandomState;
 use std::mem;
+use terminals::SpelledText;
 use trig_lexer::Kind;
-use trig_terms::{Leaf, LeafText};
-
-const XSD_STRING: &str = "http://www.w3.org/2001/XMLSchema#string";
+use trig_terms::Leaf;
 
 /// Why a use has no definition.
 #[derive(Clone, Copy, Debug, PartialEq, Eq)]
@@ -46,7 +44,7 @@ pub struct Builder<'a> {
     prefixes: Prefixes,
     base: Option<TermText>,
     // The prefix that a directive sets.
-    setting: Option<LeafText<'a>>,
+    setting: Option<SpelledText<'a>>,
     pending: Option<Pending<'a>>,
     missing: Option<Missing>,
     // The IRI of the last prefixed name, so that its memory is used again.
@@ -281,7 +279,7 @@ impl<'a> Builder<'a> {
     }
 
     // The prefix that a directive sets is met.
-    fn begin_prefix(&mut self, prefix: LeafText<'a>)
+    fn begin_prefix(&mut self, prefix: SpelledText<'a>)
         requires { IsReady self.old }
         ensures ready { IsReady self.new }
         ensures builds { (s : State) → Builds self.old s → Builds self.new (meet_namespace_in AtPrefixName prefix.entry s) }
@@ -291,7 +289,7 @@ impl<'a> Builder<'a> {
     }
 
     // PNAME_NS is met, as a name or as what a directive sets.
-    fn meet_namespace(&mut self, prefix: LeafText<'a>) -> Result<(), NoMemory>
+    fn meet_namespace(&mut self, prefix: SpelledText<'a>) -> Result<(), NoMemory>
         requires { IsReady self.old }
         ensures ready { OnOk result (IsReady self.new) }
         ensures builds { OnOk result ((s : State) → Builds self.old s → Builds self.new (meet_namespace_in s.told.place prefix.entry s)) }
@@ -306,7 +304,7 @@ impl<'a> Builder<'a> {
     }
 
     // A string is met, whose suffix may follow.
-    fn begin_string(&mut self, lexical: LeafText<'a>) -> Result<(), NoMemory>
+    fn begin_string(&mut self, lexical: SpelledText<'a>) -> Result<(), NoMemory>
         requires { IsReady self.old }
         ensures ready { OnOk result (IsReady self.new) }
         ensures builds { OnOk result ((s : State) → Builds self.old s → Builds self.new (meet_leaf (QuotedLeaf lexical.entry) s)) }
@@ -344,12 +342,12 @@ impl<'a> Builder<'a> {
         ensures ready { OnOk result (IsReady self.new) }
         ensures builds { OnOk result ((s : State) → Builds self.old (record s { pending = None }) → Builds self.new (meet_leaf leaf.entry (end_string (TypedKind (xsd (codes "string"))) lexical.now s))) }
     {
-        self.end_string(lexical, LiteralKindRef::Typed(XSD_STRING))?;
+        self.end_string(lexical, LiteralKindRef::Typed(xsd::STRING))?;
         self.meet_leaf(leaf)
     }
 
     // Behind the string, which was taken, a word or a mark is met.
-    fn meet_mark_behind(&mut self, lexical: LeafText<'a>, kind: Kind) -> Result<(), NoMemory>
+    fn meet_mark_behind(&mut self, lexical: SpelledText<'a>, kind: Kind) -> Result<(), NoMemory>
         requires ready { IsReady self.old }
         requires taken { self.old.pending ≡ None }
         ensures ready { OnOk result (IsReady self.new) }
@@ -363,7 +361,7 @@ impl<'a> Builder<'a> {
     }
 
     // Behind the string, which was taken, its suffix is met, or it has none.
-    fn meet_behind(&mut self, lexical: LeafText<'a>, leaf: Leaf<'a>) -> Result<(), NoMemory>
+    fn meet_behind(&mut self, lexical: SpelledText<'a>, leaf: Leaf<'a>) -> Result<(), NoMemory>
         requires ready { IsReady self.old }
         requires taken { self.old.pending ≡ None }
         requires valid { IsValidLeaf leaf }
@@ -416,8 +414,8 @@ impl<'a> Builder<'a> {
         self.missing
     }
 
-    /// The nodes that were mentioned, and the quads that were said: all of them, or more than
-    /// `MAX_QUADS`.
+    /// The blank nodes that were mentioned, and the quads that were said: all of them, or more
+    /// than `MAX_QUADS`.
     pub fn into_draft(self) -> Draft
         ensures { (s : State) → Builds self.entry s → Drafts result s.told }
     {

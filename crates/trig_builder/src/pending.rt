@@ -1,11 +1,11 @@
 //! A string whose suffix may follow.
-use trig_terms::LeafText;
+use terminals::SpelledText;
 
-/// A string whose suffix may follow (RDF 1.1 TriG, section 4.5, RDFLiteral).
+// A string whose suffix may follow (RDF 1.1 TriG, section 4.5, RDFLiteral).
 #[derive(Drop)]
 pub(crate) enum Pending<'a> {
-    /// No suffix was met yet.
-    Plain(LeafText<'a>),
-    /// `^^` was met, and the IRI of the datatype was not.
-    AwaitsType(LeafText<'a>),
+    // No suffix was met yet.
+    Plain(SpelledText<'a>),
+    // `^^` was met, and the IRI of the datatype was not.
+    AwaitsType(SpelledText<'a>),
 }

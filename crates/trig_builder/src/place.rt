@@ -4,30 +4,30 @@ ghost use Rattle.trig_builder.specs.Telling.{graph_at, with_verb, without_verb};
 
 use rdf_terms::Term;
 
-/// Where the next term stands. The terms before it that it stands behind are copies of its own,
-/// and the cells of collections are nodes, by their numbers in the draft.
+// Where the next term stands. The terms before it that it stands behind are copies of its own,
+// and the cells of collections are blank nodes, by their numbers in the draft.
 #[derive(Debug, Drop)]
 pub(crate) enum Place {
-    /// The subject of triples, or the label of a graph.
+    // The subject of triples, or the label of a graph.
     AtSubject,
-    /// The verb behind this subject, or a `{` behind this label.
+    // The verb behind this subject, or a `{` behind this label.
     AtVerb(Term),
-    /// An object of this subject and verb.
+    // An object of this subject and verb.
     AtObject(Term, Term),
-    /// An item of a collection, of which this is the last cell so far.
+    // An item of a collection, of which this is the last cell so far.
     InItems(Option<u32>),
-    /// The item of this cell.
+    // The item of this cell.
     AtItem(u32),
-    /// The prefix that a directive sets.
+    // The prefix that a directive sets.
     AtPrefixName,
-    /// The IRI that it sets the prefix to.
+    // The IRI that it sets the prefix to.
     AtPrefixIri,
-    /// The IRI that a directive sets the base to.
+    // The IRI that a directive sets the base to.
     AtBaseIri,
 }
 
 impl Place {
-    /// What names the graph that begins here.
+    // What names the graph that begins here.
     pub(crate) fn graph_name(self) -> Option<Term>
         ensures { result ≡ graph_at self }
     {
@@ -37,7 +37,7 @@ impl Place {
         }
     }
 
-    /// Behind the verb of the subject.
+    // Behind the verb of the subject.
     pub(crate) fn with_verb(self, verb: Term) -> Place
         ensures { result ≡ with_verb verb self }
     {
@@ -47,7 +47,7 @@ impl Place {
         }
     }
 
-    /// Behind the subject again, before its next verb.
+    // Behind the subject again, before its next verb.
     pub(crate) fn without_verb(self) -> Place
         ensures { result ≡ without_verb self }
     {

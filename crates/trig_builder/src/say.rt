@@ -1,4 +1,4 @@
-//! Quads that are said, and nodes that are mentioned.
+//! Quads that are said, and blank nodes that are mentioned.
 ghost use Rattle.std.specs.Prelude.{◌≡◌, ◌+◌, ◌<◌, ◌↔◌, length, IsTrue, IfOk, OnOk, IfSome};
 ghost use Rattle.rdf_terms.specs.Terms.{IsIri, IsIriOrBlank, IsValidTerm, IsValidStatement};
 ghost use Rattle.rdf_terms.specs.Document.{statements, Interns};
@@ -42,7 +42,7 @@ fn say(draft: &mut Draft, quad: StatementRef<'_>) -> Result<(), NoMemory>
     Ok(())
 }
 
-/// Says the quad of these terms in the graph of this name.
+// Says the quad of these terms in the graph of this name.
 pub(crate) fn say_in(
     draft: &mut Draft,
     graph_name: &Option<Term>,
@@ -69,7 +69,7 @@ pub(crate) fn say_in(
     )
 }
 
-/// The number in the draft of the node that is mentioned.
+// The number in the draft of the blank node that is mentioned.
 pub(crate) fn mention(draft: &mut Draft, label: LabelRef<'_>) -> Result<u32, NoMemory>
     ensures interns { IfOk result (Interns draft.old.labels draft.new.labels (label_of label.entry)) }
     ensures statements { statements draft.new ≡ statements draft.old }
@@ -80,7 +80,7 @@ pub(crate) fn mention(draft: &mut Draft, label: LabelRef<'_>) -> Result<u32, NoM
     draft.node_ref(label)
 }
 
-/// The number of the node that is opened.
+// The number of the blank node that is opened.
 pub(crate) fn open(draft: &mut Draft, opened: &mut u32) -> Result<u32, NoMemory>
     ensures interns { IfOk result (Interns draft.old.labels draft.new.labels (Anonymous opened.old)) }
     ensures statements { statements draft.new ≡ statements draft.old }

@@ -27,7 +27,7 @@ const RDF_TYPE: &str = "http://www.w3.org/1999/02/22-rdf-syntax-ns#type";
 
 const RDF_NIL: &str = "http://www.w3.org/1999/02/22-rdf-syntax-ns#nil";
 
-/// What has been told: the quads, and where the next term stands.
+// What has been told: the quads, and where the next term stands.
 #[derive(Drop)]
 pub(crate) struct Telling {
     alloc: Global,
@@ -243,7 +243,7 @@ impl Telling {
         Ok(())
     }
 
-    // A label is met: it names one node in the whole document.
+    // A label is met: it names one blank node in the whole document.
     pub(crate) fn meet_label(&mut self, name: &str) -> Result<(), NoMemory>
         requires { IsSound (view_of self.old) }
         ensures sound { OnOk result (IsSound (view_of self.new)) }
@@ -255,7 +255,7 @@ impl Telling {
         Ok(())
     }
 
-    // A node is opened, and stands in the place.
+    // A blank node is opened, and stands in the place.
     fn put_next(&mut self) -> Result<u32, NoMemory>
         requires { IsSound (view_of self.old) }
         ensures sound { OnOk result (IsSound (view_of self.new)) }
@@ -278,7 +278,7 @@ impl Telling {
         Ok(())
     }
 
-    // `[` opens a node, whose verbs stand inside.
+    // `[` opens a blank node, whose verbs stand inside.
     fn begin_properties(&mut self) -> Result<(), NoMemory>
         requires { IsSound (view_of self.old) }
         ensures sound { OnOk result (IsSound (view_of self.new)) }
@@ -434,7 +434,7 @@ impl Telling {
         &self.place
     }
 
-    /// The quads that were said.
+    // The quads that were said.
     pub(crate) fn into_draft(self) -> Draft
         ensures { result ≡ self.draft }
     {

@@ -2,8 +2,7 @@
 use Rattle.std.proofs.Common.{◌≡◌, ◌≢◌, ℕ, ◌≤◌, inl, inr, List, [], ◌∷◌, ◌++◌, Option, Some, None, length, refl, sym, ap, subst, ◌∙◌, arith, append-nil, append_assoc}
 use Rattle.std.specs.Str.{IsValidUpTo}
 use Rattle.std.proofs.lemmas.Bool.{cases_lt}
-use Rattle.rdf_terms.specs.Lists.{Text}
-use Rattle.rdf_terms.specs.Terms.{Statement}
+use Rattle.rdf_terms.proofs.Common.{Text, Statement}
 use Rattle.rdf_terms.specs.declared.term.Label.{Label}
 use Rattle.trig_lexer.specs.declared.kind.Kind.TheVariants.{End}
 use Rattle.trig_lexer.specs.declared.token.Token.{Token}
@@ -35,11 +34,12 @@ module _ (bytes : Text) where
       ]
 
   same_not_utf8 : (m n : ℕ) → IsNotUtf8 bytes m → IsNotUtf8 bytes n → m ≡ n
-  same_not_utf8 m n x y = x.line_is ∙ ap (line_at bytes) (same_front x.front y.front x.longest y.longest) ∙ sym y.line_is
+  same_not_utf8 m n x y = x.line_is ∙ ap (line_at bytes) (same_front x.valid_len y.valid_len x.longest y.longest) ∙ sym y.line_is
 
   -- ---- tokens that are no document
 
-  goes_on : (front tokens : List Token) (start : ℕ) → IsBadNext bytes front start → BeginsWith bytes tokens → BeginDocument (kinds tokens) → (next : Token) (rest : List Token) → tokens ≡ front ++ next ∷ rest → ⊥
+  goes_on : (front tokens : List Token) (start : ℕ) → IsBadNext bytes front start → BeginsWith bytes tokens → BeginDocument (kinds tokens) → (next : Token) (rest : List Token)
+      → tokens ≡ front ++ next ∷ rest → ⊥
   goes_on front tokens start bad begins sentence next rest e =
       none_goes_on bytes front start next rest bad (subst (BeginsWith bytes) e begins) (subst (λ ts. BeginDocument (kinds ts)) e sentence)
 
@@ -76,7 +76,8 @@ module _ (bytes : Text) (base : Option Text) where
   all_defined : (why : Undefined) (n : ℕ) (labels : List Label) (sts : List Statement) → IsUndefined bytes base why n → IsTriG bytes base labels sts → ⊥
   all_defined why n labels sts x read =
       let tokens : read.tokens ≡ x.tokens ++ [] = same_tokens bytes read.tokens x.tokens read.are_tokens x.are_tokens ∙ sym (append-nil x.tokens) in
-      let some : (says base read.leaves).undefined ≡ Some why = undefined_within bytes base x.tokens why x.use_at x.first [] read.leaves (subst (λ ts. AreLeaves bytes ts read.leaves) tokens read.are_leaves) in
+      let some : (says base read.leaves).undefined ≡ Some why = undefined_within bytes base x.tokens why x.use_at x.first [] read.leaves
+      (subst (λ ts. AreLeaves bytes ts read.leaves) tokens read.are_leaves) in
       let none : (says base read.leaves).undefined ≡ None = read.defined in
       cc
 

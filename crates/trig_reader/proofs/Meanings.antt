@@ -70,7 +70,8 @@ module _ {A : Type 0} where
       also_first x y z w front other head (places front x more other y others tail)
 
 -- before the one use there is no other
-not_before : (text : Text) (base : Option Text) (tokens : List Token) (why whys : Undefined) (one other : Token) (x : IsFirstUndefined text base tokens why one) (y : IsFirstUndefined text base tokens whys other)
+not_before : (text : Text) (base : Option Text) (tokens : List Token) (why whys : Undefined) (one other : Token) (x : IsFirstUndefined text base tokens why one)
+    (y : IsFirstUndefined text base tokens whys other)
     (rest : List Token) → y.front ≡ x.front ++ one ∷ rest → ⊥
 not_before text base tokens why whys one other x y rest e =
     let within : IsFirstUndefined text base y.front why one = record {
@@ -85,11 +86,12 @@ not_before text base tokens why whys one other x y rest e =
       undefined = x.undefined;
     } in
     let none : (says base y.leaves).undefined ≡ Some why =
-    undefined_within text base y.front why one within [] y.leaves (subst (λ ts. AreLeaves text ts y.leaves) (let nothing : y.front ≡ y.front ++ [] = sym (append-nil y.front) in nothing) y.before) in
+    undefined_within text base y.front why one within [] y.leaves (subst (λ ts. AreLeaves text ts y.leaves) (sym (append-nil y.front)) y.before) in
     let some : (says base y.leaves).undefined ≡ None = y.defined in
     cc
 
-pub same_use : (text : Text) (base : Option Text) (tokens : List Token) (why whys : Undefined) (one other : Token) → IsFirstUndefined text base tokens why one → IsFirstUndefined text base tokens whys other
+pub same_use : (text : Text) (base : Option Text) (tokens : List Token) (why whys : Undefined) (one other : Token) → IsFirstUndefined text base tokens why one
+    → IsFirstUndefined text base tokens whys other
     → (why ≡ whys) × (one ≡ other)
 same_use text base tokens why whys one other x y = by (places x.front one x.more y.front other y.more (sym x.are ∙ y.are))
   where
@@ -106,7 +108,8 @@ same_use text base tokens why whys one other x y = by (places x.front one x.more
     by (stands_behind rest e) = absurd (not_before text base tokens whys why other one y x rest e)
 
 -- one more token behind such a use
-pub use_stays : (text : Text) (base : Option Text) (tokens : List Token) (why : Undefined) (use_at next : Token) → IsFirstUndefined text base tokens why use_at → IsFirstUndefined text base (tokens ++ next ∷ []) why use_at
+pub use_stays : (text : Text) (base : Option Text) (tokens : List Token) (why : Undefined) (use_at next : Token) → IsFirstUndefined text base tokens why use_at
+    → IsFirstUndefined text base (tokens ++ next ∷ []) why use_at
 use_stays text base tokens why use_at next x = record {
   front = x.front;
   more = x.more ++ next ∷ [];

@@ -1,19 +1,13 @@
 -- What a document says is numbered in one way, and can be numbered whole.
-use Rattle.std.proofs.Common.{◌≡◌, ◌<◌, ◌≤◌, Bool, true, false, ◌&&◌, List, [], ◌∷◌, ◌++◌, Option, Some, None, length, map, refl, sym, ap, subst, ◌∙◌, arith, ◌⊎◌, inl, inr, append-nil, true≢false, if◌then◌else◌}
-use Rattle.std.specs.List.{AllZip, list_any}
+use Rattle.std.proofs.Common.{◌≡◌, ◌<◌, ◌≤◌, Bool, true, false, ◌&&◌, List, [], ◌∷◌, ◌++◌, Option, Some, None, length, map, refl, sym, ap, subst, ◌∙◌, arith, ◌⊎◌, inl, inr, append-nil, true≢false}
+use Rattle.std.specs.List.{AllZip}
 use Rattle.std.proofs.lemmas.List.{length-map, length-append}
 use Rattle.std.proofs.lemmas.Bool.{and_from, and_parts}
-use Rattle.rdf_terms.specs.Lists.{AreDistinct}
-use Rattle.rdf_terms.specs.Terms.{Statement}
-use Rattle.rdf_terms.specs.Document.{Document, statements, Adds, AddsAll, Finishes, new_number, used_below, label_at}
-use Rattle.rdf_terms.specs.Isomorphism.{relabel_statement}
+use Rattle.rdf_terms.proofs.Common.{AreDistinct, Statement, Document, statements, AddsAll, Finishes, new_number, used_below, label_at, relabel_statement, TellsEqual, one_place, AreDistinct-AddsAll, AddsAll-same, AddsAll-append, AddsAll-extends, add_all, terms_tell}
 use Rattle.rdf_terms.specs.declared.term.Term.{Term}
 use Rattle.rdf_terms.specs.declared.term.Term.TheVariants.{Blank}
 use Rattle.rdf_terms.specs.declared.term.Label.{Label}
 use Rattle.rdf_terms.specs.contracts.term.TermPartialEq.TheImpl.{eq-value as eq-term}
-use Rattle.rdf_terms.proofs.Membership.{TellsEqual, inserted, one_place, Extends-adds}
-use Rattle.rdf_terms.proofs.Added.{AreDistinct-AddsAll}
-use Rattle.rdf_terms.proofs.SameTerm.{terms_tell}
 use Rattle.trig_terms.specs.Meaning.{Said, StatedQuad, Told}
 use Rattle.trig_terms.specs.Meaning.Said.{Iri, Node, Literal}
 use Rattle.trig_builder.specs.Numbered.{IsTermOf, IsGraphNameOf, IsStatementOf}
@@ -22,19 +16,6 @@ use Rattle.trig_builder.specs.declared.TheConstants.{MAX_QUADS}
 use Rattle.trig_reader.specs.Document.{AreNumbered, AreStated}
 
 -- ---- in one way
-
-module _ {A : Type 0} where
-  adds-same : (old : List A) (x : A) (one other : List A) → Adds old x one → Adds old x other → one ≡ other
-  adds-same old x one other (inl h) (inl k) = h.0 ∙ sym k.0
-  adds-same old x one other (inl h) (inr k) = absurd (k.1 h.1)
-  adds-same old x one other (inr h) (inl k) = absurd (h.1 k.1)
-  adds-same old x one other (inr h) (inr k) = h.0 ∙ sym k.0
-
-  adds_all-same : (old xs one other : List A) → AddsAll old xs one → AddsAll old xs other → one ≡ other
-  adds_all-same old [] one other h k = h ∙ sym k
-  adds_all-same old (x ∷ xs) one other h k =
-      let next = adds-same old x h.0 k.0 h.1 k.1 in
-      adds_all-same k.0 xs one other (subst (λ o. AddsAll o xs one) next h.2) k.2
 
 module _ (labels : List Label) (distinct : AreDistinct labels) where
   term-same : (said : Said) (t u : Term) → IsTermOf labels said t → IsTermOf labels said u → t ≡ u
@@ -67,11 +48,11 @@ module _ (labels : List Label) (distinct : AreDistinct labels) where
 
 numbered-same : (told : Told) (labels others : List Label) (one other : List Statement) → AreNumbered told labels one → AreNumbered told others other → (labels ≡ others) × (one ≡ other)
 numbered-same told labels others one other h k =
-    let same : labels ≡ others = adds_all-same [] told.mentioned labels others h.labels_are k.labels_are in
+    let same : labels ≡ others = AddsAll-same [] told.mentioned labels others h.labels_are k.labels_are in
     let distinct = AreDistinct-AddsAll [] told.mentioned others k.labels_are tt in
     let numbers = subst (λ ls. AllZip (IsStatementOf ls) told.quads h.numbered) same h.numbers in
     let numbered = statements-same others distinct told.quads h.numbered k.numbered numbers k.numbers in
-    (same, adds_all-same [] k.numbered one other (subst (λ ns. AddsAll [] ns one) numbered h.statements_are) k.statements_are)
+    (same, AddsAll-same [] k.numbered one other (subst (λ ns. AddsAll [] ns one) numbered h.statements_are) k.statements_are)
 
 abbrev used_labels : List Label → List Statement → List Label
 used_labels labels said = map (label_at labels) (used_below said (length labels))
@@ -131,24 +112,6 @@ statements_tell = record { same = statement_is; itself = statement_itself }
 
 -- ---- all that is said
 
-module _ {A : Type 0} where
-  add_all : (eq : A → A → Bool) → TellsEqual eq → (old xs : List A) → (new : List A) × AddsAll old xs new
-  add_all eq tells old [] = (old, refl)
-  add_all eq tells old (x ∷ xs) =
-      let next : List A = if list_any (eq x) old then old else old ++ x ∷ [] in
-      let more = add_all eq tells next xs in
-      (more.0, (next, inserted eq tells old next x refl, more.1))
-
-  AddsAll-append : (old xs middle ys new : List A) → AddsAll old xs middle → AddsAll middle ys new → AddsAll old (xs ++ ys) new
-  AddsAll-append old [] middle ys new h k = subst (λ o. AddsAll o ys new) h k
-  AddsAll-append old (x ∷ xs) middle ys new h k = (h.0, h.1, AddsAll-append h.0 xs middle ys new h.2 k)
-
-  longer : (old xs new : List A) → AddsAll old xs new → length old ≤ length new
-  longer old [] new h = omega (arith, ap length h)
-  longer old (x ∷ xs) new h =
-      let one = Extends-adds old x h.0 h.1 in
-      omega (arith, ap length one.1, length-append old one.0, longer h.0 xs new h.2)
-
 -- a draft with more quads than there may be holds the first of those that are said, and all of them are more too
 pub record IsMany (told : Told) : Type 0 where
   pub labels : List Label
@@ -161,6 +124,7 @@ many_stated draft told drafts many =
     let front = drafts.drafted.front in
     let more = drafts.drafted.passed_over in
     let whole = add_all same_statement statements_tell (statements draft) more in
+    let grows = AddsAll-extends (statements draft) more whole.0 whole.1 in
     record {
       labels = used_labels draft.labels whole.0;
       sts = renumbered whole.0;
@@ -176,7 +140,7 @@ many_stated draft told drafts many =
         labels_are = refl;
         statements_are = refl;
       };
-      many = omega (arith, many, longer (statements draft) more whole.0 whole.1, length-map whole.0 (relabel_statement (new_number whole.0)));
+      many = omega (arith, many, ap length grows.1, length-append (statements draft) grows.0, length-map whole.0 (relabel_statement (new_number whole.0)));
     }
 
 -- within the limit the draft holds all that is said

@@ -1,44 +1,32 @@
 -- A token stands for one leaf.
-use Rattle.std.proofs.Common.{◌≡◌, ◌≢◌, ℕ, false, List, [], ◌∷◌, ◌++◌, length, refl, sym, ap, subst, ◌∙◌, arith, inl, inr}
+use Rattle.std.proofs.Common.{◌≡◌, ℕ, List, [], ◌∷◌, ◌++◌, length, refl, sym, ap, subst, ◌∙◌, arith, inl, inr}
 use Rattle.std.specs.Prelude.{encode_utf8_all}
 use Rattle.std.proofs.lemmas.List.{append_cancel_left, length-append}
 use Rattle.std.proofs.lemmas.Str.{encodes_same}
 use Rattle.rdf_terms.specs.Lists.{Text}
 use Rattle.terminals.specs.Terminal.{Characters}
 use Rattle.terminals.specs.Terminals.{IriRef as Iri, ShortString, BlankNodeLabel, LangTag as TagTerminal}
-use Rattle.terminals.specs.Spellings.{quote_mark, stands_for_itself, SpellsOne, Spells}
+use Rattle.terminals.specs.Spellings.{quote_mark, Spells}
 use Rattle.terminals.specs.declared.bodies.Quote.{Quote}
-use Rattle.terminals.specs.declared.bodies.Quote.TheVariants.{Double, Single}
 use Rattle.terminals.specs.declared.bodies.Body.TheVariants.{Short, Long}
 use Rattle.terminals.specs.declared.labels.Grammar.TheVariants.{TriG}
 use Rattle.terminals.proofs.Escaping.{same_head, same_tail, same_split}
-use Rattle.terminals.proofs.Unique.{same_one, escape_front, none_at_mark}
+use Rattle.terminals.proofs.Unique.{same_one, none_at_mark}
+use Rattle.terminals.proofs.Unescaping.{one_is_some}
 use Rattle.terminals.proofs.Facts.{HasOneValue, iri_one_value, string_one_value, label_one_value, tag_one_value}
 use Rattle.trig_lexer.specs.Strings.{three_marks}
 use Rattle.trig_lexer.specs.declared.kind.Kind.{Kind}
 use Rattle.trig_lexer.specs.declared.kind.Kind.TheVariants.{IriRef, BlankLabel, Quoted, LangTag}
 use Rattle.trig_lexer.specs.declared.token.Token.{Token}
-use Rattle.trig_lexer.proofs.LongPieces.{long_body}
+use Rattle.trig_lexer.proofs.LongPieces.{short_body}
+use Rattle.trig_lexer.proofs.Quoting.{same_quote}
 use Rattle.trig_terms.specs.declared.leaf.Leaf.{Leaf}
 use Rattle.trig_terms.specs.declared.leaf.Leaf.TheVariants.{Iri as IriLeaf, Label, Quoted as StringLeaf, Tag}
 use Rattle.trig_terms.specs.Leaves.{HasValue, MeansOne, Means, LongString, StringIn, IsLeafOf, IsLeaf, bytes_of}
+use Rattle.trig_terms.proofs.LongStrings.{no_mark}
 use Rattle.trig_reader.specs.Document.{AreLeaves}
 
 -- ---- the marks of strings
-
-same_quote : (one other : Quote) → quote_mark one ≡ quote_mark other → one ≡ other
-same_quote Double Double e = refl
-same_quote Double Single e = absurd (omega (arith, e))
-same_quote Single Double e = absurd (omega (arith, e))
-same_quote Single Single e = refl
-
-mark_ends : (quote : Quote) → stands_for_itself (Short quote) (quote_mark quote) ≡ false
-mark_ends Double = refl
-mark_ends Single = refl
-
-mark_is_no_escape : (quote : Quote) → quote_mark quote ≢ 92
-mark_is_no_escape Double e = omega (arith, e)
-mark_is_no_escape Single e = omega (arith, e)
 
 -- no short string has a mark as its first character
 no_mark_inside : (quote : Quote) (inner value rest : Characters) → inner ++ quote_mark quote ∷ [] ≡ quote_mark quote ∷ quote_mark quote ∷ rest → Spells (Short quote) inner value → ⊥
@@ -46,7 +34,7 @@ no_mark_inside quote [] value rest e spells = omega (arith, ap length e)
 no_mark_inside quote (x ∷ inner) [] rest e spells = let none : x ∷ inner ≡ [] = spells in cc
 no_mark_inside quote (x ∷ inner) (c ∷ cs) rest e (first, more, splits, one, ones) =
     let head : x ≡ quote_mark quote = same_head x (quote_mark quote) (inner ++ quote_mark quote ∷ []) (quote_mark quote ∷ rest) e in
-    none_at_mark (Short quote) (quote_mark quote) inner (mark_ends quote) (mark_is_no_escape quote) first c more (ap (λ y. y ∷ inner) (sym head) ∙ splits) one
+    none_at_mark (Short quote) (quote_mark quote) inner (short_body quote).0 (short_body quote).1 first c more (ap (λ y. y ∷ inner) (sym head) ∙ splits) one
 
 -- so none is a long string too
 short_or_long : (quote other : Quote) (spelled value inside : Characters) → ShortString quote spelled value → spelled ≡ three_marks other ++ (inside ++ three_marks other) → ⊥
@@ -59,16 +47,9 @@ short_or_long quote other spelled value inside x e =
 
 -- ---- long strings
 
-no_mark : (quote : Quote) (rest : Characters) (one : Characters) (c : ℕ) (more : Characters) → quote_mark quote ∷ rest ≡ one ++ more → SpellsOne (Long quote) one c → ⊥
-no_mark quote rest one c more e spells = none_at_mark (Long quote) (quote_mark quote) rest (long_body quote).0 (long_body quote).1 one c more e spells
-
 means_some : (quote : Quote) (first more : Characters) (c : ℕ) → MeansOne quote first c → [] ≡ first ++ more → ⊥
 means_some quote first more c (inl (x, p)) e = let whole : [] ≡ c ∷ more = e ∙ ap (λ f. f ++ more) x in cc
-means_some quote first more c (inr (inl (x, p, s))) e = let whole : [] ≡ c ∷ more = e ∙ ap (λ f. f ++ more) x in cc
-means_some quote first more c (inr (inr escape)) e =
-    let front = escape_front (Long quote) first c escape in
-    let whole : [] ≡ 92 ∷ (front.0 ++ more) = e ∙ ap (λ f. f ++ more) front.1 in
-    cc
+means_some quote first more c (inr one) e = one_is_some (Long quote) first more c one e
 
 one_means_same : (quote : Quote) (xs ys us vs : Characters) (c d : ℕ) → xs ++ us ≡ ys ++ vs → MeansOne quote xs c → MeansOne quote ys d → (c ≡ d) × (us ≡ vs)
 one_means_same quote xs ys us vs c d e (inl (x, p)) (inl (y, q)) =
@@ -151,7 +132,8 @@ parted_leaves text (t ∷ front) more (l ∷ all) x =
     let rest = parted_leaves text front more all x.1 in
     record { before = l ∷ rest.before; behind = rest.behind; are = ap (λ ls. l ∷ ls) rest.are; of_front = (x.0, rest.of_front); of_more = rest.of_more }
 
-pub push_leaf : (text : Text) (tokens : List Token) (leaves : List Leaf) (token : Token) (leaf : Leaf) → AreLeaves text tokens leaves → IsLeaf text token leaf → AreLeaves text (tokens ++ token ∷ []) (leaves ++ leaf ∷ [])
+pub push_leaf : (text : Text) (tokens : List Token) (leaves : List Leaf) (token : Token) (leaf : Leaf) → AreLeaves text tokens leaves → IsLeaf text token leaf
+    → AreLeaves text (tokens ++ token ∷ []) (leaves ++ leaf ∷ [])
 push_leaf text [] [] token leaf x is = (is, tt)
 push_leaf text [] (l ∷ ls) token leaf x is = absurd x
 push_leaf text (t ∷ ts) [] token leaf x is = absurd x

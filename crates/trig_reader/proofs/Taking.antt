@@ -4,8 +4,7 @@ use Rattle.std.specs.Prelude.{IsUtf8, encode_utf8_all}
 use Rattle.std.specs.Str.{IsCharBoundary}
 use Rattle.std.proofs.lemmas.List.{length-append, length-drop, take_at}
 use Rattle.std.proofs.lemmas.Str.{encodes-append}
-use Rattle.rdf_terms.specs.Lists.{Text}
-use Rattle.rdf_terms.specs.Document.{Document}
+use Rattle.rdf_terms.proofs.Common.{Text, Document}
 use Rattle.terminals.specs.Terminal.{Characters}
 use Rattle.trig_lexer.specs.declared.kind.Kind.{Kind}
 use Rattle.trig_lexer.specs.declared.kind.Kind.TheVariants.{End}
@@ -56,7 +55,8 @@ spelled_bytes after_string text place token is some =
       fits = next.2;
     }
 
-pub cut_out : (after_string : Bool) (text : Text) (place : ℕ) (token : Token) → IsTokenAt after_string text place token → IsCharBoundary text token.start → IsCharBoundary text token.end → IsCut text token
+pub cut_out : (after_string : Bool) (text : Text) (place : ℕ) (token : Token) → IsTokenAt after_string text place token → IsCharBoundary text token.start → IsCharBoundary text token.end
+    → IsCut text token
 cut_out after_string text place token is starts ends = record { starts = starts; ends = ends; ordered = is.ordered; spelled = λ some. spelled_bytes after_string text place token is some }
 
 -- ---- what the token says
@@ -77,7 +77,8 @@ module _ (text : Text) (base : Option Text) (tokens : List Token) (token : Token
       let at = old why (sym stays ∙ now) in
       record { use_at = at.use_at; first = use_stays text base tokens why at.use_at token at.first; place_is = at.place_is }
 
-  first_use : (missing : Option Missing) (place : ℕ) → undefined_of missing ≡ (says base leaves).undefined → ((w : Undefined) → (says base leaves).undefined ≡ Some w → IsUseAt text base tokens w place)
+  first_use : (missing : Option Missing) (place : ℕ) → undefined_of missing ≡ (says base leaves).undefined
+      → ((w : Undefined) → (says base leaves).undefined ≡ Some w → IsUseAt text base tokens w place)
       → (why : Undefined) → (says base (leaves ++ leaf ∷ [])).undefined ≡ Some why → IsUseAt text base (tokens ++ token ∷ []) why (place_told missing place token.start)
   first_use None place is old why now = first_here why (sym is) now
   first_use (Some Prefix) place is old why now = first_before why NoPrefix place old (sym is) now
@@ -107,7 +108,8 @@ taken_more text first tokens token old new taken next goes_on ready told = recor
 }
 
 pub bad_token : (text : Text) (base : Option Text) (first : Reading) (tokens : List Token) (token : Token) (old : Reading) (line : ℕ) → IsUtf8 text → HasTaken text first tokens old → HaveNoEnd tokens
-    → IsNextBehind text tokens token → ((front : List Kind) → IsBehind front old.parser → ¬ (BeginsSentence (front ++ token.kind ∷ []))) → line ≡ line_at text token.start → IsCauseOf text base (BadTrig line)
+    → IsNextBehind text tokens token → ((front : List Kind) → IsBehind front old.parser → ¬ (BeginsSentence (front ++ token.kind ∷ []))) → line ≡ line_at text token.start
+    → IsCauseOf text base (BadTrig line)
 bad_token text base first tokens token old line utf8 taken no_end next none line_is = record {
   utf8 = utf8;
   front = tokens;
@@ -119,7 +121,8 @@ bad_token text base first tokens token old line utf8 taken no_end next none line
   line_is = line_is;
 }
 
-pub bad_place : (text : Text) (base : Option Text) (first : Reading) (tokens : List Token) (old : Reading) (place start line : ℕ) → IsUtf8 text → HasTaken text first tokens old → HaveNoEnd tokens → place ≡ place_behind 0 tokens
+pub bad_place : (text : Text) (base : Option Text) (first : Reading) (tokens : List Token) (old : Reading) (place start line : ℕ) → IsUtf8 text → HasTaken text first tokens old → HaveNoEnd tokens
+    → place ≡ place_behind 0 tokens
     → HasNoneBehind text tokens → IsTokenStart text place start → line ≡ line_at text start → IsCauseOf text base (BadTrig line)
 bad_place text base first tokens old place start line utf8 taken no_end here none at line_is = record {
   utf8 = utf8;
@@ -134,12 +137,14 @@ bad_place text base first tokens old place start line utf8 taken no_end here non
 
 -- ---- all tokens were taken
 
-pub taken_all : (text : Text) (first : Reading) (tokens : List Token) (last : Token) (reading : Reading) → HasTaken text first (tokens ++ last ∷ []) reading → HaveNoEnd tokens → last.kind ≡ End → HasTakenAll text first reading
+pub taken_all : (text : Text) (first : Reading) (tokens : List Token) (last : Token) (reading : Reading) → HasTaken text first (tokens ++ last ∷ []) reading → HaveNoEnd tokens → last.kind ≡ End
+    → HasTakenAll text first reading
 taken_all text first tokens last reading taken no_end end =
     let are : AreTokens text (tokens ++ last ∷ []) = record { front = tokens; last = last; are = refl; begins = taken.begins; goes_on = no_end; ends = end } in
     record { tokens = tokens ++ last ∷ []; are_tokens = are; sentence = begun_tokens_are text (tokens ++ last ∷ []) are taken.behind.begins; told = taken.told }
 
-pub missing_cause : (text : Text) (first : Reading) (base : Option Text) (reading : Reading) (missing : Missing) (line : ℕ) → IsUtf8 text → HasTakenAll text first reading → Builds first.builder (begin base)
+pub missing_cause : (text : Text) (first : Reading) (base : Option Text) (reading : Reading) (missing : Missing) (line : ℕ) → IsUtf8 text → HasTakenAll text first reading
+    → Builds first.builder (begin base)
     → ((s : State) → Builds reading.builder s → undefined_of (Some missing) ≡ s.undefined) → line ≡ line_at text reading.last_told → IsCauseOf text base (fault_at missing line)
 missing_cause text first base reading missing line utf8 all begins is line_is = by missing (is (says base told.leaves) told.builds)
   where

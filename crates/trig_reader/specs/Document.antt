@@ -2,10 +2,7 @@
 use Rattle.std.specs.Prelude.{◌≡◌, ◌⊎◌, ℕ, ◌<◌, List, [], ◌∷◌, ◌++◌, Option, Some, None, IsUtf8, length, map}
 use Rattle.std.specs.List.{AllZip}
 use Rattle.std.specs.Str.{IsValidUpTo}
-use Rattle.rdf_terms.specs.Lists.{Text}
-use Rattle.rdf_terms.specs.Terms.{Statement}
-use Rattle.rdf_terms.specs.Document.{AddsAll, new_number, used_below, label_at}
-use Rattle.rdf_terms.specs.Isomorphism.{relabel_statement}
+use Rattle.rdf_terms.specs.Vocabulary.{Text, Statement, AddsAll, new_number, used_below, label_at, relabel_statement}
 use Rattle.rdf_terms.specs.declared.term.Label.{Label}
 use Rattle.trig_lexer.specs.Tokens.{IsTokenStart}
 use Rattle.trig_lexer.specs.declared.token.Token.{Token}
@@ -26,14 +23,15 @@ AreLeaves text tokens leaves = AllZip (IsLeaf text) tokens leaves
 
 -- ---- what is read
 
--- Node n is the n-th that is mentioned, and the quads are those that are said, each once, in the order in which they were said first.
+-- Node n is the n-th that is mentioned, and the quads are those that are said, each once, in the order in which they
+-- were said first.
 pub record AreNumbered (told : Told) (labels : List Label) (statements : List Statement) : Type 0 where
   pub numbered : List Statement
   pub labels_are : AddsAll [] told.mentioned labels
   pub numbers : AllZip (IsStatementOf labels) told.quads numbered
   pub statements_are : AddsAll [] numbered statements
 
--- The same without the nodes that stand in no quad; the others are numbered anew in their order.
+-- The same without the blank nodes that stand in no quad; the others are numbered anew in their order.
 pub record AreStated (told : Told) (labels : List Label) (statements : List Statement) : Type 0 where
   pub mentioned : List Label
   pub said : List Statement
@@ -57,14 +55,16 @@ pub record IsTriG (bytes : Text) (base : Option Text) (labels : List Label) (sta
 -- the line of the first byte behind the longest front that is UTF-8
 pub record IsNotUtf8 (bytes : Text) (line : ℕ) : Type 0 where
   pub invalid : ¬ (IsUtf8 bytes)
-  pub front : ℕ
-  pub longest : IsValidUpTo bytes front
-  pub line_is : line ≡ line_at bytes front
+  pub valid_len : ℕ
+  pub longest : IsValidUpTo bytes valid_len
+  pub line_is : line ≡ line_at bytes valid_len
 
--- Behind these tokens, with which a document begins, none goes on with the next token, which begins here and may be the end of the text; or no token fits where it should begin.
+-- Behind these tokens, with which a document begins, none goes on with the next token, which begins here and may be the
+-- end of the text; or no token fits where it should begin.
 abbrev pub IsBadNext : Text → List Token → ℕ → Type 0
 IsBadNext bytes front start =
-    ((next : Token) × IsNextBehind bytes front next × (start ≡ next.start) × (¬ (BeginDocument (kinds (front ++ next ∷ [])))))
+    ((next : Token) × IsNextBehind bytes front next × (start ≡ next.start)
+    × (¬ (BeginDocument (kinds (front ++ next ∷ [])))))
     ⊎ (HasNoneBehind bytes front × IsTokenStart bytes (place_behind 0 front) start)
 
 -- as many tokens as begin a document, and the line of the next one
@@ -79,7 +79,8 @@ pub record IsBad (bytes : Text) (line : ℕ) : Type 0 where
   pub line_is : line ≡ line_at bytes start
 
 -- of these tokens this one, and none before it, is a use without a definition
-pub record IsFirstUndefined (bytes : Text) (base : Option Text) (tokens : List Token) (why : Undefined) (use_at : Token) : Type 0 where
+pub record IsFirstUndefined (bytes : Text) (base : Option Text) (tokens : List Token) (why : Undefined)
+    (use_at : Token) : Type 0 where
   pub front : List Token
   pub more : List Token
   pub leaves : List Leaf

@@ -1,4 +1,5 @@
--- The lines of a text, by which a fault is told. A line ends at LF, at CR LF, or at a CR that no LF follows, in strings and comments too.
+-- The lines of a text, by which a fault is told. A line ends at LF, at CR LF, or at a CR that no LF follows, in strings
+-- and comments too.
 use Rattle.std.specs.Prelude.{ℕ, suc, Bool, false, not, ◌&&◌, ◌||◌, [], ◌∷◌, ◌==◌, take, if◌then◌else◌}
 use Rattle.rdf_terms.specs.Lists.{Text}
 
@@ -6,7 +7,7 @@ abbrev pub begins_with_lf : Text → Bool
 begins_with_lf [] = false
 begins_with_lf (c ∷ cs) = c == 10
 
--- how many line ends a text has; 10 is LF and 13 is CR, and a CR in front of an LF belongs to the line end of that LF
+-- how many line ends a text has; 10 is LF and 13 is CR, and a CR before an LF belongs to the line end of that LF
 abbrev pub line_ends : Text → ℕ
 line_ends [] = 0
 line_ends (c ∷ cs) =

@@ -1,8 +1,7 @@
 -- How what is held while a text is read stands for the tokens that were taken.
 use Rattle.std.specs.Prelude.{◌≡◌, ◌≢◌, ◌≤◌, ℕ, List, Option, Some, None}
 use Rattle.std.specs.Str.{IsCharBoundary}
-use Rattle.rdf_terms.specs.Lists.{Text}
-use Rattle.rdf_terms.specs.Document.{Document}
+use Rattle.rdf_terms.specs.Vocabulary.{Text, Document}
 use Rattle.trig_lexer.specs.declared.kind.Kind.TheVariants.{End}
 use Rattle.trig_lexer.specs.declared.token.Token.{Token}
 use Rattle.trig_grammar.specs.Stack.{IsBehind}
@@ -34,18 +33,21 @@ pub record IsUseAt (text : Text) (base : Option Text) (tokens : List Token) (why
   pub place_is : place ≡ use_at.start
 
 -- the builder holds what these tokens say
-pub record HasTold (text : Text) (base : Option Text) (tokens : List Token) (builder : Builder) (last_told : ℕ) : Type 0 where
+pub record HasTold (text : Text) (base : Option Text) (tokens : List Token) (builder : Builder)
+    (last_told : ℕ) : Type 0 where
   pub leaves : List Leaf
   pub are_leaves : AreLeaves text tokens leaves
   pub builds : Builds builder (says base leaves)
   pub use_at : (why : Undefined) → (says base leaves).undefined ≡ Some why → IsUseAt text base tokens why last_told
 
--- The text begins with these tokens, and a document begins with them; they were taken since no token was, and what they say is held, whatever base there was.
+-- The text begins with these tokens, and a document begins with them; they were taken since no token was, and what they
+-- say is held, whatever base there was.
 pub record HasTaken (text : Text) (first : Reading) (tokens : List Token) (reading : Reading) : Type 0 where
   pub begins : BeginsWith text tokens
   pub behind : IsBehind (kinds tokens) reading.parser
   pub ready : IsReady reading.builder
-  pub told : (base : Option Text) → Builds first.builder (begin base) → HasTold text base tokens reading.builder reading.last_told
+  pub told : (base : Option Text) → Builds first.builder (begin base)
+      → HasTold text base tokens reading.builder reading.last_told
 
 -- this token is the next one behind those that were taken
 pub record IsAtNext (text : Text) (reading : Reading) (token : Token) : Type 0 where
@@ -61,7 +63,8 @@ pub record HasTakenAll (text : Text) (first reading : Reading) : Type 0 where
   pub tokens : List Token
   pub are_tokens : AreTokens text tokens
   pub sentence : AreSentence tokens
-  pub told : (base : Option Text) → Builds first.builder (begin base) → HasTold text base tokens reading.builder reading.last_told
+  pub told : (base : Option Text) → Builds first.builder (begin base)
+      → HasTold text base tokens reading.builder reading.last_told
 
 -- the text is a document, each of whose uses has its definition, and the draft holds what it says
 pub record IsDraftOf (text : Text) (base : Option Text) (draft : Document) : Type 0 where

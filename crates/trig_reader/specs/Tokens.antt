@@ -16,7 +16,8 @@ is_string kind = false
 -- from the place on, which is behind a string or not, the text has these tokens
 abbrev pub Follow : Text → ℕ → Bool → List Token → Type 0
 Follow text place after_string [] = Unit {0}
-Follow text place after_string (token ∷ tokens) = IsTokenAt after_string text place token × Follow text token.end (is_string token.kind) tokens
+Follow text place after_string (token ∷ tokens) =
+    IsTokenAt after_string text place token × Follow text token.end (is_string token.kind) tokens
 
 -- the place behind the tokens, and whether it is behind a string
 abbrev pub place_behind : ℕ → List Token → ℕ

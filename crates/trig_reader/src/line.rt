@@ -27,7 +27,7 @@ fn line_behind(front: &[u8]) -> u64
     line
 }
 
-/// The line of what begins at the place, counted from 1.
+// The line of what begins at the place, counted from 1.
 pub(crate) fn line_at(bytes: &[u8], place: usize) -> u64
     ensures { result ≡ line_at bytes.now place }
 {

@@ -15,9 +15,9 @@ use std::hash::RandomState;
 
 /// Reads a document (RDF 1.1 TriG, sections 4 and 5). A given base is an IRI with a scheme.
 ///
-/// A label names one node in the whole document. Nodes are numbered from 0 in the order in which
-/// their tokens mention or open them; one that stands in no quad is left out. The keys are those of
-/// the tables' hashes; no answer depends on them.
+/// A label names one blank node in the whole document. Blank nodes are numbered from 0 in the order
+/// in which their tokens mention or open them; one that stands in no quad is left out. The keys are
+/// those of the tables' hashes; no answer depends on them.
 pub fn read_trig(
     alloc: Global,
     keys: RandomState,

@@ -11,7 +11,7 @@ use rdf_terms::Draft;
 use std::alloc::Global;
 use std::hash::RandomState;
 
-/// What the text says, where this is the base.
+// What the text says, where this is the base.
 pub(crate) fn read_text(
     alloc: Global,
     keys: RandomState,

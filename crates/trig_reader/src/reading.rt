@@ -21,7 +21,7 @@ use trig_grammar::Parser;
 use trig_lexer::{Kind, Token, next_token, token_start};
 use trig_terms::leaf_of;
 
-/// What is held of a text of which some tokens were taken.
+// What is held of a text of which some tokens were taken.
 #[derive(Drop)]
 pub(crate) struct Reading<'a> {
     parser: Parser,
@@ -63,8 +63,8 @@ fn undefined(missing: Missing, line: u64) -> TrigFault
 }
 
 impl<'a> Reading<'a> {
-    /// A text of which no token was taken. The keys are those of the hashes of tables; no answer
-    /// depends on them.
+    // A text of which no token was taken. The keys are those of the hashes of tables; no answer
+    // depends on them.
     pub(crate) fn new(
         alloc: Global,
         keys: RandomState,
@@ -108,7 +108,7 @@ impl<'a> Reading<'a> {
         Ok(())
     }
 
-    /// Takes the tokens of the text, one behind the other, up to its end.
+    // Takes the tokens of the text, one behind the other, up to its end.
     pub(crate) fn take_all(&mut self, alloc: Global, text: &'a str) -> Result<(), TrigFault>
         requires { HasTaken text.now self.old [] self.old }
         ensures taken { OnOk result (HasTakenAll text.now self.old self.new) }
@@ -130,7 +130,7 @@ impl<'a> Reading<'a> {
         }
     }
 
-    /// What the text says, all of whose tokens were taken.
+    // What the text says, all of whose tokens were taken.
     pub(crate) fn finish(self, text: &str) -> Result<Draft, TrigFault>
         ensures ok { IfOk result (λ draft. (first : ReadingOf) (base : Option Text) → HasTakenAll text.now first self.entry → Builds first.builder (begin base) → IsDraftOf text.now base draft) }
         ensures err { IfErr result (λ fault. (first : ReadingOf) (base : Option Text) → HasTakenAll text.now first self.entry → Builds first.builder (begin base) → IsCauseOf text.now base fault) }

@@ -1,5 +1,5 @@
 -- The value of a long string: a mark stands for itself, and the runs between marks have the values of their spellings.
-use Rattle.std.proofs.Common.{◌≡◌, ℕ, suc, ◌+◌, ◌-◌, ◌<◌, ◌≤◌, true, List, [], ◌∷◌, ◌++◌, All, length, take, drop, refl, sym, ap, subst, ◌∙◌, arith, ◌⊎◌, inl, inr}
+use Rattle.std.proofs.Common.{◌≡◌, ℕ, suc, ◌+◌, ◌-◌, ◌<◌, ◌≤◌, true, List, [], ◌∷◌, ◌++◌, All, length, take, drop, refl, sym, ap, subst, ◌∙◌, arith, inl, inr}
 use Rattle.std.specs.Prelude.{encode_utf8, encode_utf8_all, slice_range}
 use Rattle.std.specs.List.{concat}
 use Rattle.std.specs.Str.{IsAscii, IsUtf8, IsCharBoundary, all_scalars}
@@ -14,8 +14,9 @@ use Rattle.terminals.specs.declared.bodies.Body.TheVariants.{Long}
 use Rattle.terminals.specs.declared.runs.Spelling.{Spelling}
 use Rattle.terminals.specs.Terminal.{Characters}
 use Rattle.terminals.specs.Terminals.{ShortString}
-use Rattle.terminals.specs.Spellings.{quote_mark, SpellsOne, Spells, SpellsNone, TextSpells, BeginsWithRun}
-use Rattle.terminals.proofs.Unique.{same_one, escape_front, none_at_mark}
+use Rattle.terminals.specs.Spellings.{quote_mark, Spells, SpellsNone, TextSpells, BeginsWithRun}
+use Rattle.terminals.proofs.Unique.{same_one, none_at_mark}
+use Rattle.terminals.proofs.Unescaping.{one_is_some, Left}
 use Rattle.terminals.proofs.Running.{all_scalars-append_right}
 use Rattle.trig_lexer.specs.Strings.{three_marks, IsLongPiece, IsLongString}
 use Rattle.trig_lexer.proofs.LongPieces.{long_body}
@@ -25,15 +26,8 @@ use Rattle.trig_terms.proofs.Whole.{nothing_encoded}
 
 -- ---- what characters mean, one by one
 
-one_is_some : (body : Body) (spelled more : Characters) (c : ℕ) → SpellsOne body spelled c → [] ≡ spelled ++ more → ⊥
-one_is_some body spelled more c (inl (x, p, s)) e = let whole : [] ≡ c ∷ more = e ∙ ap (λ f. f ++ more) x in cc
-one_is_some body spelled more c (inr escape) e =
-    let front = escape_front body spelled c escape in
-    let whole : [] ≡ 92 ∷ (front.0 ++ more) = e ∙ ap (λ f. f ++ more) front.1 in
-    cc
-
 -- no spelled character begins with the mark
-no_mark : (quote : Quote) (rest : Characters) → SpellsNone (Long quote) (quote_mark quote ∷ rest)
+pub no_mark : (quote : Quote) (rest : Characters) → SpellsNone (Long quote) (quote_mark quote ∷ rest)
 no_mark quote rest = none_at_mark (Long quote) (quote_mark quote) rest (long_body quote).0 (long_body quote).1
 
 -- what a front spells, the value begins with
@@ -68,13 +62,7 @@ means_nothing quote rest [] e z = refl
 means_nothing quote rest (d ∷ ds) e (g, n, q, inl (mark, is), more) = let whole : [] ≡ d ∷ n = sym e ∙ q ∙ ap (λ s. s ++ n) mark in cc
 means_nothing quote rest (d ∷ ds) e (g, n, q, inr one, more) = absurd (one_is_some (Long quote) g n d one (sym e ∙ q))
 
--- ---- how the value is written: for each value of the whole, what is written is its front, and the rest means what is left
-
-abbrev pub Left : Quote → Text → Text → Text → Type 0
-Left quote inside rest written = (value : Text) → TextMeans quote inside value → (left : Text) × (value ≡ written ++ left) × TextMeans quote rest left
-
-pub left_start : (quote : Quote) (inside written : Text) → written ≡ [] → Left quote inside inside written
-left_start quote inside written nothing value means = (value, ap (λ w. w ++ value) (sym nothing), means)
+-- ---- how the value is written
 
 -- what a run stands for, and what is written for it
 abbrev pub Writes : Spelling → Text → Type 0
@@ -83,7 +71,13 @@ Writes spelling piece = (value : Text) → TextSpells spelling.body spelling.tex
 piece_is : (quote : Quote) (rest behind piece : Text) (spelling : Spelling) (x : BeginsWithRun (Long quote) rest spelling behind) → Writes spelling piece → piece ≡ encode_utf8_all x.value_characters
 piece_is quote rest behind piece spelling x writes =
     writes (encode_utf8_all x.value_characters)
-    (record { spelled_characters = x.spelled_characters; value_characters = x.value_characters; spelled_is = x.spelled_is; value_is = refl; spells = subst (λ b. Spells b x.spelled_characters x.value_characters) (sym x.body_is) x.spells })
+    (record {
+      spelled_characters = x.spelled_characters;
+      value_characters = x.value_characters;
+      spelled_is = x.spelled_is;
+      value_is = refl;
+      spells = subst (λ b. Spells b x.spelled_characters x.value_characters) (sym x.body_is) x.spells;
+    })
 
 -- what the rest means, behind the run
 record BehindRun (quote : Quote) (left piece behind : Text) : Type 0 where
@@ -109,7 +103,7 @@ behind_run quote rest behind piece left spelling x writes means =
     }
 
 pub left_step : (quote : Quote) (inside rest behind next written piece pushed : Text) (c : ℕ) (spelling : Spelling) → BeginsWithRun (Long quote) rest spelling behind → Writes spelling piece
-    → behind ≡ encode_utf8 c ++ next → pushed ≡ (written ++ piece) ++ encode_utf8 c → Left quote inside rest written → Left quote inside next pushed
+    → behind ≡ encode_utf8 c ++ next → pushed ≡ (written ++ piece) ++ encode_utf8 c → Left (TextMeans quote) inside rest written → Left (TextMeans quote) inside next pushed
 left_step quote inside rest behind next written piece pushed c spelling run writes first now left value means =
     let before = left value means in
     let so = behind_run quote rest behind piece before.0 spelling run writes before.2 in
@@ -123,7 +117,7 @@ left_step quote inside rest behind next written piece pushed c spelling run writ
     )
 
 pub left_end : (quote : Quote) (inside rest behind written piece pushed : Text) (spelling : Spelling) → BeginsWithRun (Long quote) rest spelling behind → Writes spelling piece → behind ≡ []
-    → pushed ≡ written ++ piece → Left quote inside rest written → (value : Text) → TextMeans quote inside value → pushed ≡ value
+    → pushed ≡ written ++ piece → Left (TextMeans quote) inside rest written → (value : Text) → TextMeans quote inside value → pushed ≡ value
 left_end quote inside rest behind written piece pushed spelling run writes nothing now left value means =
     let before = left value means in
     let so = behind_run quote rest behind piece before.0 spelling run writes before.2 in
@@ -139,7 +133,8 @@ run_utf8 body rest behind spelling x utf8 =
 -- the run and what follows it leave less
 pub run_shorter : (quote : Quote) (rest behind next : Text) (c : ℕ) (spelling : Spelling) → BeginsWithRun (Long quote) rest spelling behind → behind ≡ encode_utf8 c ++ next → length next < length rest
 run_shorter quote rest behind next c spelling x first =
-    let whole : rest ≡ encode_utf8_all x.spelled_characters ++ behind = x.text_is ∙ encodes-append x.spelled_characters x.rest_characters ∙ ap (λ r. encode_utf8_all x.spelled_characters ++ r) (sym x.rest_is) in
+    let whole : rest ≡ encode_utf8_all x.spelled_characters ++ behind = x.text_is ∙ encodes-append x.spelled_characters x.rest_characters
+    ∙ ap (λ r. encode_utf8_all x.spelled_characters ++ r) (sym x.rest_is) in
     omega (arith, ap length whole, length-append (encode_utf8_all x.spelled_characters) behind, ap length first, length-append (encode_utf8 c) next, length-encode c, (len_utf8_bounds c).0)
 
 -- ---- each long string has a value
@@ -234,7 +229,8 @@ module _ (quote : Quote) (text : Text) (x : IsInside quote text) where
   inside_ends =
       let len : length (three_marks quote ++ inside) ≡ length text - 3 = omega (arith, inside_length) in
       subst (IsCharBoundary text) len
-      (IsCharBoundary-at_seam text (three_marks quote ++ inside) (three_marks quote) (x.splits ∙ sym (append_assoc (three_marks quote) inside (three_marks quote))) (IsUtf8-from_ascii (three_marks quote) (marks_ascii quote)))
+      (IsCharBoundary-at_seam text (three_marks quote ++ inside) (three_marks quote) (x.splits ∙ sym (append_assoc (three_marks quote) inside (three_marks quote)))
+      (IsUtf8-from_ascii (three_marks quote) (marks_ascii quote)))
 
   -- what stands between the marks means the value
   pub inside_means : (other : Quote) (cut : Text) → other ≡ quote → cut ≡ slice_range text 3 (length text - 3) → TextMeans other cut (encode_utf8_all x.value)

@@ -1,7 +1,7 @@
 -- Texts that are one terminal from their first character to their last.
-use Rattle.std.proofs.Common.{◌≡◌, ℕ, refl, [], ◌∷◌, ◌++◌, length, sym, ap, ◌∙◌, arith, inl, inr}
+use Rattle.std.proofs.Common.{◌≡◌, refl, [], ◌∷◌, ◌++◌, length, sym, ap, ◌∙◌, arith, inl, inr}
 use Rattle.std.specs.Prelude.{encode_utf8, encode_utf8_all}
-use Rattle.std.proofs.lemmas.List.{append-nil, length-append}
+use Rattle.std.proofs.lemmas.List.{append-nil, length-append, nil_from_length}
 use Rattle.std.proofs.lemmas.Str.{encodes_same, length-encode, len_utf8_bounds}
 use Rattle.rdf_terms.specs.Lists.{Text}
 use Rattle.terminals.specs.Terminal.{Characters, TextBeginsWith, TextBeginsWithNone}
@@ -15,11 +15,7 @@ use Rattle.trig_lexer.specs.Strings.{IsQuoted}
 use Rattle.trig_lexer.specs.Tokens.{IsToken}
 use Rattle.trig_lexer.proofs.LocalParts.{HasParts, HasLocal, namespace_parts, name_parts}
 use Rattle.trig_terms.specs.Leaves.{IsSpelled, HasValue}
-use Rattle.trig_terms.specs.Values.{Spells, IsWhole, IsWholeLong}
-
-pub nothing_at_all : (xs : Characters) → length xs ≡ 0 → xs ≡ []
-nothing_at_all [] e = refl
-nothing_at_all (x ∷ xs) e = absurd (omega arith)
+use Rattle.trig_terms.specs.Values.{IsWhole, IsWholeLong}
 
 pub nothing_encoded : (cs : Characters) → encode_utf8_all cs ≡ [] → cs ≡ []
 nothing_encoded [] e = refl
@@ -41,7 +37,7 @@ module _ (terminal : Characters → Characters → Type 0) (text : Text) (all : 
   no_rest value rest x =
       let same : x.text_characters ≡ all.spelled = encodes_same x.text_characters all.spelled (sym x.text_is ∙ all.text_is) in
       let longest = x.begins.longest all.spelled all.meant [] (same ∙ sym (append-nil all.spelled)) all.fits in
-      nothing_at_all x.rest_characters (omega (arith, ap length (sym same ∙ x.begins.splits), length-append x.begins.spelled x.rest_characters))
+      nil_from_length x.rest_characters (omega (arith, ap length (sym same ∙ x.begins.splits), length-append x.begins.spelled x.rest_characters))
 
 value_read : (terminal : Characters → Characters → Type 0) (text value rest : Text) (x : TextBeginsWith terminal text value rest) → x.rest_characters ≡ [] → HasValue terminal text value
 value_read terminal text value rest x nothing = record {
@@ -75,7 +71,8 @@ pub short_whole : (quote : Quote) (text rest : Text) (spelling : Spelling) → R
 short_whole quote text rest spelling x nothing = record {
   value = x.value;
   has_value = value_read (ShortString quote) text x.value rest x.begins (nothing_encoded x.begins.rest_characters (sym x.begins.rest_is ∙ nothing));
-  spells = record { spells = x.spells; plain = x.plain };
+  spells = x.spells;
+  plain = x.plain;
 }
 
 pub no_short : (quote : Quote) (text : Text) → TextBeginsWithNone (ShortString quote) text → (spelled value : Characters) → text ≡ encode_utf8_all spelled → ¬ (ShortString quote spelled value)

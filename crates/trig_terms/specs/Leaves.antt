@@ -1,8 +1,7 @@
 -- What each token of a text stands for by itself (RDF 1.1 TriG, sections 4.5 and 5.2).
 use Rattle.std.specs.Prelude.{◌≡◌, ℕ, Bool, false, ◌-◌, ◌==◌, ◌⊎◌, [], ◌∷◌, ◌++◌, take, drop, codes, encode_utf8_all, All}
 use Rattle.std.specs.List.{before_first, after_first}
-use Rattle.rdf_terms.specs.Lists.{Text}
-use Rattle.rdf_terms.specs.Terms.{is_excluded, IsAbsoluteIri, IsLanguageTag}
+use Rattle.rdf_terms.specs.Vocabulary.{Text, is_excluded, IsAbsoluteIri, IsLanguageTag}
 use Rattle.terminals.specs.Terminal.{Characters}
 use Rattle.terminals.specs.Terminals.{IriRef as Iri, ShortString, BlankNodeLabel, LangTag as TagTerminal}
 use Rattle.terminals.specs.Spellings.{quote_mark, SpellsOne}
@@ -46,7 +45,9 @@ MeansOne quote spelled c = ((spelled ≡ c ∷ []) × (c ≡ quote_mark quote)) 
 
 abbrev pub Means : Quote → Characters → Characters → Type 0
 Means quote spelled [] = spelled ≡ []
-Means quote spelled (c ∷ cs) = (first : Characters) × (more : Characters) × (spelled ≡ first ++ more) × MeansOne quote first c × Means quote more cs
+Means quote spelled (c ∷ cs) =
+    (first : Characters) × (more : Characters) × (spelled ≡ first ++ more) × MeansOne quote first c
+    × Means quote more cs
 
 -- a long string and its value
 pub record LongString (quote : Quote) (spelled value : Characters) : Type 0 where
@@ -85,7 +86,8 @@ IsLeafOf kind bytes leaf = leaf ≡ Mark kind
 abbrev pub IsLeaf : Text → Token → Leaf → Type 0
 IsLeaf text token leaf = IsLeafOf token.kind (bytes_of text token) leaf
 
--- what every leaf of a token keeps: no excluded character stands in an IRI or in the local part of a name, and datatypes and tags are such
+-- what every leaf of a token keeps: no excluded character stands in an IRI or in the local part of a name, and
+-- datatypes and tags are such
 abbrev pub IsValidLeaf : Leaf → Type 0
 IsValidLeaf (IriLeaf text) = All (λ c. is_excluded c ≡ false) text
 IsValidLeaf (Name prefix local) = All (λ c. is_excluded c ≡ false) local

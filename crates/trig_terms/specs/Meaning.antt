@@ -1,4 +1,5 @@
--- What a sentence says: a fold over its tokens, from left to right, with the prefixes, the base and the graph as they stand (RDF 1.1 TriG, sections 4.4 and 5).
+-- What a sentence says: a fold over its tokens, from left to right, with the prefixes, the base and the graph as they
+-- stand (RDF 1.1 TriG, sections 4.4 and 5).
 -- It needs no tree: where a token stands in its sentence is told by what has been begun and not ended.
 -- It is total: where a term may not stand, as in no sentence it does, it is passed over.
 use Rattle.std.specs.Prelude.{ℕ, suc, List, [], ◌∷◌, ◌++◌, Option, Some, None, if◌then◌else◌, codes}
@@ -75,7 +76,15 @@ rdf_nil = Iri (rdf (codes "nil"))
 
 -- the quad is said in the current graph
 abbrev pub say : Said → Said → Said → Told → Told
-say subject predicate object t = record t { quads = t.quads ++ record { subject = subject; predicate = predicate; object = object; graph_name = t.graph_name } ∷ [] }
+say subject predicate object t =
+    record t {
+      quads = t.quads ++ record {
+        subject = subject;
+        predicate = predicate;
+        object = object;
+        graph_name = t.graph_name;
+      } ∷ [];
+    }
 
 -- a literal is no subject
 abbrev pub put_subject : Said → Told → Told
@@ -103,12 +112,12 @@ put_in _ term t = t
 abbrev pub put : Said → Told → Told
 put term t = put_in t.place term t
 
--- ---- nodes
+-- ---- blank nodes
 
 abbrev pub mention : Label → Told → Told
 mention label t = record t { mentioned = t.mentioned ++ label ∷ [] }
 
--- the node that is opened next
+-- the blank node that is opened next
 abbrev pub next_node : Told → Said
 next_node t = Node (Anonymous t.opened)
 
@@ -130,7 +139,8 @@ leave t = leave_to t.outer t
 abbrev pub turn_to : Place → Told → Told
 turn_to place t = record t { place = place; outer = [] }
 
--- In a collection the cell of an item is opened just before the item. The first cell is what the collection stands for, and each other one is the rest of the one before.
+-- In a collection the cell of an item is opened just before the item. The first cell is what the collection stands for,
+-- and each other one is the rest of the one before.
 abbrev pub next_cell : Option Said → Said → Told → Told
 next_cell None cell t = enter (AtItem cell) (put cell (leave t))
 next_cell (Some before) cell t = record (say before rdf_rest cell t) { place = AtItem cell }
@@ -146,21 +156,21 @@ begin_item t = begin_item_in t.place t
 abbrev pub meet : Said → Told → Told
 meet term t = put term (begin_item t)
 
--- a label is met: it names one node in the whole document
+-- a label is met: it names one blank node in the whole document
 abbrev pub meet_label : Text → Told → Told
 meet_label name t = put (Node (Named name)) (mention (Named name) (begin_item t))
 
 abbrev pub put_next : Told → Told
 put_next t = put (next_node t) (open_node t)
 
--- an anonymous node is opened where a term may stand
+-- an anonymous blank node is opened where a term may stand
 abbrev pub meet_anonymous : Told → Told
 meet_anonymous t = put_next (begin_item t)
 
 abbrev pub enter_next : Told → Told
 enter_next t = enter (AtVerb (next_node t)) (put_next t)
 
--- `[` opens an anonymous node, whose verbs stand inside
+-- `[` opens an anonymous blank node, whose verbs stand inside
 abbrev pub begin_properties : Told → Told
 begin_properties t = enter_next (begin_item t)
 
@@ -208,7 +218,8 @@ pub record State : Type 0 where
   pub undefined : Option Undefined  -- the first use without a definition
 
 abbrev pub begin : Option Text → State
-begin base = record { told = nothing_told; prefixes = []; base = base; setting = None; pending = None; undefined = None }
+begin base =
+    record { told = nothing_told; prefixes = []; base = base; setting = None; pending = None; undefined = None }
 
 abbrev pub tell : (Told → Told) → State → State
 tell f s = record s { told = f s.told }
@@ -236,13 +247,15 @@ set_prefix None iri prefixes = prefixes
 set_prefix (Some prefix) iri prefixes = (prefix, iri) ∷ prefixes
 
 abbrev pub meet_iri_in : Place → Text → State → State
-meet_iri_in AtPrefixIri iri s = record (tell (turn_to AtSubject) s) { prefixes = set_prefix s.setting iri s.prefixes; setting = None }
+meet_iri_in AtPrefixIri iri s =
+    record (tell (turn_to AtSubject) s) { prefixes = set_prefix s.setting iri s.prefixes; setting = None }
 meet_iri_in AtBaseIri iri s = record (tell (turn_to AtSubject) s) { base = Some iri }
 meet_iri_in _ iri s = tell (meet (Iri iri)) s
 
 -- the string becomes a literal of this kind
 abbrev pub end_string : LiteralKind → Text → State → State
-end_string kind lexical s = record (tell (put (Literal (record { lexical = lexical; kind = kind }))) s) { pending = None }
+end_string kind lexical s =
+    record (tell (put (Literal (record { lexical = lexical; kind = kind }))) s) { pending = None }
 
 -- an absolute IRI is met, as a term, as a datatype, or in a directive
 abbrev pub meet_absolute : Option Pending → Text → State → State

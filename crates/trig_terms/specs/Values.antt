@@ -8,16 +8,12 @@ use Rattle.terminals.specs.declared.runs.Spelling.{Spelling}
 use Rattle.trig_lexer.specs.Strings.{IsLongString}
 use Rattle.trig_terms.specs.Leaves.{HasValue, Means}
 
--- these characters are the value of what is spelled
-pub record Spells (spelling : Spelling) (value : Text) : Type 0 where
-  pub spells : TextSpells spelling.body spelling.text.now value
-  pub plain : spelling.has_escapes ≡ false → spelling.text.now ≡ value
-
 -- all of the text is the terminal, whose value is what is spelled
 pub record IsWhole (terminal : Characters → Characters → Type 0) (text : Text) (spelling : Spelling) : Type 0 where
   pub value : Text
   pub has_value : HasValue terminal text value
-  pub spells : Spells spelling value
+  pub spells : TextSpells spelling.body spelling.text.now value
+  pub plain : spelling.has_escapes ≡ false → spelling.text.now ≡ value
 
 -- all of the text is a long string
 pub record IsWholeLong (quote : Quote) (text : Text) : Type 0 where

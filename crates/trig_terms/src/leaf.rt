@@ -1,5 +1,5 @@
 //! What a token of a sentence stands for by itself.
-use crate::LeafText;
+use terminals::SpelledText;
 use trig_lexer::Kind;
 
 /// A token of a sentence, with what its characters stand for by themselves (RDF 1.1 TriG, section
@@ -9,19 +9,19 @@ pub enum Leaf<'a> {
     /// A word or a mark.
     Mark(Kind),
     /// An IRIREF, its escapes undone.
-    Iri(LeafText<'a>),
+    Iri(SpelledText<'a>),
     /// PNAME_NS without its `:`.
-    Namespace(LeafText<'a>),
+    Namespace(SpelledText<'a>),
     /// PNAME_LN: what stands before its first `:`, and its local part, its escapes undone.
-    Name(LeafText<'a>, LeafText<'a>),
+    Name(SpelledText<'a>, SpelledText<'a>),
     /// BLANK_NODE_LABEL without its `_:`.
-    Label(LeafText<'a>),
+    Label(SpelledText<'a>),
     /// ANON
     Anonymous,
     /// A number or a truth value: its characters and its datatype.
-    Typed(LeafText<'a>, LeafText<'a>),
+    Typed(SpelledText<'a>, SpelledText<'a>),
     /// A string, its escapes undone.
-    Quoted(LeafText<'a>),
+    Quoted(SpelledText<'a>),
     /// LANGTAG without its `@`.
-    Tag(LeafText<'a>),
+    Tag(SpelledText<'a>),
 }

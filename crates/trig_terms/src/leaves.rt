@@ -4,12 +4,12 @@ ghost use Rattle.rdf_terms.specs.Terms.{IsAbsoluteIri};
 ghost use Rattle.trig_lexer.specs.declared.kind.Kind.TheVariants.{IriRef, BlankLabel, LangTag, End};
 ghost use Rattle.trig_terms.specs.Leaves.{IsSpelled, IsLeafOf, IsValidLeaf};
 
+use crate::Leaf;
 use crate::names::{name, namespace};
-use crate::strings::{spelled, string};
-use crate::{Leaf, LeafText};
+use crate::strings::string;
 use rdf_terms::{NoMemory, xsd};
 use std::alloc::Global;
-use terminals::{Grammar, blank_node_label, iriref, langtag};
+use terminals::{Grammar, SpelledText, blank_node_label, iriref, langtag};
 use trig_lexer::Kind;
 
 // The IRIREF that the text is.
@@ -19,7 +19,7 @@ fn iri(alloc: Global, text: &str) -> Result<Leaf<'_>, NoMemory>
     ensures valid { IfOk result IsValidLeaf }
 {
     match iriref(text) {
-        Some((spelling, _)) => Ok(Leaf::Iri(spelled(alloc, spelling)?)),
+        Some((spelling, _)) => Ok(Leaf::Iri(spelling.value(alloc)?)),
         None => unreachable!(),
     }
 }
@@ -30,7 +30,7 @@ fn label(text: &str) -> Leaf<'_>
     ensures { IsLeafOf BlankLabel text.now result }
 {
     match blank_node_label(text, Grammar::TriG) {
-        Some((label, _)) => Leaf::Label(LeafText::of_text(label)),
+        Some((label, _)) => Leaf::Label(SpelledText::of_text(label)),
         None => unreachable!(),
     }
 }
@@ -42,7 +42,7 @@ fn tag(text: &str) -> Leaf<'_>
     ensures valid { IsValidLeaf result }
 {
     match langtag(text) {
-        Some((tag, _)) => Leaf::Tag(LeafText::of_text(tag)),
+        Some((tag, _)) => Leaf::Tag(SpelledText::of_text(tag)),
         None => unreachable!(),
     }
 }
@@ -53,7 +53,7 @@ fn typed<'a>(text: &'a str, datatype: &'static str) -> Leaf<'a>
     ensures is { result ≡ Leaf.Typed text.now datatype.now }
     ensures valid { IsValidLeaf result }
 {
-    Leaf::Typed(LeafText::of_text(text), LeafText::of_text(datatype))
+    Leaf::Typed(SpelledText::of_text(text), SpelledText::of_text(datatype))
 }
 
 /// What a token of this kind stands for that the text spells. The end of the text is spelled by

@@ -2,11 +2,9 @@
 #![tactic(auto)]
 
 pub use leaf::Leaf;
-pub use leaf_text::LeafText;
 pub use leaves::leaf_of;
 
 mod leaf;
-mod leaf_text;
 mod leaves;
 mod names;
 mod strings;

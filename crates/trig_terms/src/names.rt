@@ -4,10 +4,10 @@ ghost use Rattle.trig_lexer.specs.declared.kind.Kind.TheVariants.{PnameNs, Pname
 ghost use Rattle.trig_lexer.specs.Names.{unescaped};
 ghost use Rattle.trig_terms.specs.Leaves.{IsSpelled, IsLeafOf, IsValidLeaf};
 
-use crate::{Leaf, LeafText};
+use crate::Leaf;
 use rdf_terms::NoMemory;
 use std::alloc::Global;
-use terminals::first_char;
+use terminals::{SpelledText, first_char};
 
 // Whether the character is a `\` that escapes the next one.
 fn escapes_next(c: char, is_escaped: bool) -> bool
@@ -42,12 +42,12 @@ fn without_escapes(alloc: Global, text: &str) -> Result<String, NoMemory>
 }
 
 // The local part of a name, its escapes undone.
-fn local_part<'a>(alloc: Global, text: &'a str) -> Result<LeafText<'a>, NoMemory>
+fn local_part<'a>(alloc: Global, text: &'a str) -> Result<SpelledText<'a>, NoMemory>
     ensures { IfOk result (λ local. local ≡ unescaped text.now) }
 {
     match text.find('\\') {
-        None => Ok(LeafText::of_text(text)),
-        Some(_) => Ok(LeafText::with_escapes_undone(without_escapes(alloc, text)?)),
+        None => Ok(SpelledText::of_text(text)),
+        Some(_) => Ok(SpelledText::with_escapes_undone(without_escapes(alloc, text)?)),
     }
 }
 
@@ -57,7 +57,7 @@ pub(crate) fn namespace(text: &str) -> Leaf<'_>
     ensures { IsLeafOf PnameNs text.now result }
 {
     match text.split_once(':') {
-        Some((prefix, _)) => Leaf::Namespace(LeafText::of_text(prefix)),
+        Some((prefix, _)) => Leaf::Namespace(SpelledText::of_text(prefix)),
         None => unreachable!(),
     }
 }
@@ -70,7 +70,7 @@ pub(crate) fn name(alloc: Global, text: &str) -> Result<Leaf<'_>, NoMemory>
 {
     match text.split_once(':') {
         Some((prefix, local)) => Ok(Leaf::Name(
-            LeafText::of_text(prefix),
+            SpelledText::of_text(prefix),
             local_part(alloc, local)?,
         )),
         None => unreachable!(),

@@ -3,29 +3,16 @@ ghost use Rattle.std.specs.Prelude.{◌≡◌, ℕ, List, false, IfOk, IfSome, I
 ghost use Rattle.rdf_terms.specs.Lists.{Text};
 ghost use Rattle.terminals.specs.Terminal.{Characters};
 ghost use Rattle.terminals.specs.Terminals.{ShortString};
-ghost use Rattle.terminals.specs.Spellings.{TextSpells};
 ghost use Rattle.terminals.specs.declared.bodies.Quote.{Quote as QuoteOf};
 ghost use Rattle.trig_lexer.specs.declared.kind.Kind.TheVariants.{Quoted};
 ghost use Rattle.trig_lexer.specs.Strings.{IsLongString};
 ghost use Rattle.trig_terms.specs.Leaves.{IsSpelled, IsLeafOf};
-ghost use Rattle.trig_terms.specs.Values.{Spells, IsWhole, IsWholeLong, TextMeans};
+ghost use Rattle.trig_terms.specs.Values.{IsWhole, IsWholeLong, TextMeans};
 
-use crate::{Leaf, LeafText};
+use crate::Leaf;
 use rdf_terms::NoMemory;
 use std::alloc::Global;
-use terminals::{Body, Quote, Spelling, after, first_char, run, short_string};
-
-// The characters that are spelled.
-pub(crate) fn spelled<'a>(alloc: Global, spelling: Spelling<'a>) -> Result<LeafText<'a>, NoMemory>
-    ensures { (value : Text) → Spells spelling.entry value → IfOk result (λ text. text ≡ value) }
-{
-    if !spelling.has_escapes {
-        return Ok(LeafText::of_text(spelling.text));
-    }
-    let mut value = String::new(alloc);
-    spelling.unescape(&mut value)?;
-    Ok(LeafText::with_escapes_undone(value))
-}
+use terminals::{Body, Quote, SpelledText, Spelling, after, first_char, run, short_string};
 
 // How the string is spelled, where all of the text is a short one with this mark.
 fn whole_short(text: &str, quote: Quote) -> Option<Spelling<'_>>
@@ -51,7 +38,7 @@ fn long_mark(text: &str) -> Quote
 }
 
 // What stands between the marks of a long string: marks there stand for themselves.
-fn long_value<'a>(alloc: Global, inside: &'a str, quote: Quote) -> Result<LeafText<'a>, NoMemory>
+fn long_value<'a>(alloc: Global, inside: &'a str, quote: Quote) -> Result<SpelledText<'a>, NoMemory>
     ensures { (value : Text) → TextMeans quote inside.now value → IfOk result (λ text. text ≡ value) }
 {
     let mut value = String::new(alloc);
@@ -62,7 +49,7 @@ fn long_value<'a>(alloc: Global, inside: &'a str, quote: Quote) -> Result<LeafTe
         spelling.unescape(&mut piece)?;
         value.push_str(piece.as_str())?;
         let Some((mark, next)) = first_char(behind) else {
-            return Ok(LeafText::with_escapes_undone(value));
+            return Ok(SpelledText::with_escapes_undone(value));
         };
         value.push(mark)?;
         rest = next;
@@ -85,10 +72,10 @@ pub(crate) fn string(alloc: Global, text: &str) -> Result<Leaf<'_>, NoMemory>
     ensures { IfOk result (IsLeafOf Quoted text.now) }
 {
     if let Some(spelling) = whole_short(text, Quote::Double) {
-        return Ok(Leaf::Quoted(spelled(alloc, spelling)?));
+        return Ok(Leaf::Quoted(spelling.value(alloc)?));
     }
     if let Some(spelling) = whole_short(text, Quote::Single) {
-        return Ok(Leaf::Quoted(spelled(alloc, spelling)?));
+        return Ok(Leaf::Quoted(spelling.value(alloc)?));
     }
     long_string(alloc, text)
 }

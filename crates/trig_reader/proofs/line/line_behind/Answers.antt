@@ -7,6 +7,8 @@ loop-byte-init c = record { counted = omega (arith, ends_are c.args.front.now); 
 
 pub loop-byte-preserved : goal.loop-byte-preserved
 loop-byte-preserved c = record {
-  counted = counted_more c.args.front.now c.loop-byte.byte-index c.loop-byte.line c.lines_ended-line.result c.loop-byte.after_cr c.loop-byte-test.true c.lines_ended-line.ensures.ended c.loop-byte.invariant.counted;
+  counted =
+      counted_more c.args.front.now c.loop-byte.byte-index c.loop-byte.line c.lines_ended-line.result c.loop-byte.after_cr c.loop-byte-test.true c.lines_ended-line.ensures.ended
+      c.loop-byte.invariant.counted;
   few = omega (arith, c.lines_ended-line.ensures.one, c.loop-byte.invariant.few);
 }

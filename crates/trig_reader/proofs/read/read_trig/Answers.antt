@@ -1,8 +1,7 @@
 use Rattle.std.proofs.Common.{subst, sym, arith}
 use Rattle.std.specs.Option.{option_copied}
 use Rattle.std.specs.Prelude.{IsUtf8}
-use Rattle.rdf_terms.specs.Lists.{Text}
-use Rattle.rdf_terms.specs.Document.{statements}
+use Rattle.rdf_terms.proofs.Common.{Text, statements}
 use Rattle.trig_reader.specs.Document.{IsTriG, IsTooMany}
 use Rattle.trig_reader.proofs.Drafted.{too_many, whole_read}
 use Rattle.trig_reader.proofs.read.read_trig.Goals as goal

@@ -14,11 +14,11 @@ returns-clause-is c =
     let found = c.in-Some.ensures.found in (
       found.value,
       whole_value Iri c.args.text.now found.value _ (iri_spelled c.args.text.now c.requires) found.begins,
-      ap (λ t. IriLeaf t) (c.in_ok-spelled-in-Some.ensures found.value (record { spells = found.spells; plain = found.plain })),
+      ap (λ t. IriLeaf t) (c.in_ok-value-in-Some.ensures found.value found.spells found.plain),
     )
 
 pub returns-clause-valid : goal.returns-clause-valid
 returns-clause-valid c =
     let found = c.in-Some.ensures.found in
-    subst (All (λ b. is_excluded b ≡ false)) (sym (c.in_ok-spelled-in-Some.ensures found.value (record { spells = found.spells; plain = found.plain })))
+    subst (All (λ b. is_excluded b ≡ false)) (sym (c.in_ok-value-in-Some.ensures found.value found.spells found.plain))
     (iri_allowed c.args.text.now found.value _ found.begins)

@@ -1,7 +1,6 @@
 use Rattle.std.proofs.Common.{ap}
 use Rattle.terminals.specs.Terminals.{BlankNodeLabel}
 use Rattle.terminals.specs.declared.labels.Grammar.TheVariants.{TriG}
-use Rattle.trig_terms.specs.declared.leaf.Leaf.{Leaf}
 use Rattle.trig_terms.specs.declared.leaf.Leaf.TheVariants.{Label}
 use Rattle.trig_terms.proofs.Whole.{not_none, whole_value, label_spelled}
 use Rattle.trig_terms.proofs.leaves.label.Goals as goal

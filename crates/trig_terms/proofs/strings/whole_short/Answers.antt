@@ -1,6 +1,7 @@
 use Rattle.std.proofs.Common.{length, ap, eq-eqb, eqb-true, sym, ◌∙◌, true≢false}
 use Rattle.terminals.proofs.Outcomes.{IfNone_since}
-use Rattle.trig_terms.proofs.Whole.{nothing_at_all, short_whole, no_short, short_before_rest}
+use Rattle.std.proofs.lemmas.List.{nil_from_length}
+use Rattle.trig_terms.proofs.Whole.{short_whole, no_short, short_before_rest}
 use Rattle.trig_terms.proofs.strings.whole_short.Goals as goal
 
 pub returns-in_err-spelling-clause-none : goal.returns-in_err-spelling-clause-none
@@ -8,7 +9,7 @@ returns-in_err-spelling-clause-none c = IfNone_since _ _ (no_short c.args.quote 
 
 pub returns-then-is_empty-clause-found : goal.returns-then-is_empty-clause-found
 returns-then-is_empty-clause-found c =
-    short_whole c.args.quote c.args.text.now _ _ c.in_ok-spelling.ensures.found (nothing_at_all _ (eqb-true _ 0 (sym c.is_empty.ensures ∙ c.if-is_empty.true)))
+    short_whole c.args.quote c.args.text.now _ _ c.in_ok-spelling.ensures.found (nil_from_length _ (eqb-true _ 0 (sym c.is_empty.ensures ∙ c.if-is_empty.true)))
 
 pub returns-else-is_empty-clause-none : goal.returns-else-is_empty-clause-none
 returns-else-is_empty-clause-none c =

@@ -1,5 +1,5 @@
 use Rattle.std.proofs.Common.{string_bytes, sym}
-use Rattle.trig_builder.specs.Prefixes.{defined}
+use Rattle.trig_builder.specs.Building.{defined}
 use Rattle.trig_builder.proofs.Meanings.{whole_spelled}
 use Rattle.trig_builder.proofs.builder.Builder.spell_name.Goals as goal
 

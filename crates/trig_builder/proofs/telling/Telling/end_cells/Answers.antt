@@ -1,16 +1,16 @@
-use Rattle.std.proofs.Common.{Some, refl, subst}
+use Rattle.std.proofs.Common.{Some, refl, subst, codes}
 use Rattle.rdf_terms.specs.Document.{statements}
 use Rattle.trig_terms.specs.Meaning.{say, rdf_rest, rdf_nil, end_items_in}
+use Rattle.trig_terms.proofs.Datatypes.{rdf_valid}
 use Rattle.trig_builder.specs.Telling.{view_of, Tells}
-use Rattle.trig_builder.proofs.Names.{rest_valid, nil_valid}
 use Rattle.trig_builder.proofs.Items.{some_items, last_told}
 use Rattle.trig_builder.proofs.telling.Telling.end_cells.Goals as goal
 
 pub say_in-requires-clause-valid_verb : goal.say_in-requires-clause-valid_verb
-say_in-requires-clause-valid_verb c = rest_valid
+say_in-requires-clause-valid_verb c = rdf_valid (codes "rest") refl refl
 
 pub say_in-requires-clause-object : goal.say_in-requires-clause-object
-say_in-requires-clause-object c = nil_valid
+say_in-requires-clause-object c = rdf_valid (codes "nil") refl refl
 
 pub returns-clause-tells : goal.returns-clause-tells
 returns-clause-tells c t h =

@@ -9,7 +9,8 @@ use Rattle.trig_builder.proofs.telling.Telling.meet_label.Goals as goal
 
 pub put-requires-clause-sound : goal.put-requires-clause-sound
 put-requires-clause-sound c =
-    mention_sound (view_of c.begin_item.new.self) c.mention.new.draft.labels (statements c.mention.new.draft) c.begin_item.new.self.opened c.in_ok-node.node (Named c.args.name.now) c.in_ok-node.ensures.interns c.in_ok-begin_item.ensures.sound
+    mention_sound (view_of c.begin_item.new.self) c.mention.new.draft.labels (statements c.mention.new.draft) c.begin_item.new.self.opened c.in_ok-node.node
+    (Named c.args.name.now) c.in_ok-node.ensures.interns c.in_ok-begin_item.ensures.sound
 
 pub put-requires-clause-valid : goal.put-requires-clause-valid
 put-requires-clause-valid c = label_within c.begin_item.new.self.draft.labels c.mention.new.draft.labels (Named c.args.name.now) c.in_ok-node.node c.in_ok-node.ensures.interns

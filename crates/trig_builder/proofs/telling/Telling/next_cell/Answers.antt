@@ -10,7 +10,8 @@ use Rattle.trig_builder.proofs.telling.Telling.next_cell.Goals as goal
 
 pub first_cell-requires-clause-sound : goal.first_cell-requires-clause-sound
 first_cell-requires-clause-sound c =
-    mention_sound (view_of c.args.self.now) c.open.new.draft.labels (statements c.open.new.draft) c.open.new.opened c.in_ok-node.node (Anonymous c.args.self.now.opened) c.in_ok-node.ensures.interns c.requires.sound
+    mention_sound (view_of c.args.self.now) c.open.new.draft.labels (statements c.open.new.draft) c.open.new.opened c.in_ok-node.node
+    (Anonymous c.args.self.now.opened) c.in_ok-node.ensures.interns c.requires.sound
 
 pub first_cell-requires-clause-node : goal.first_cell-requires-clause-node
 first_cell-requires-clause-node c =
@@ -18,7 +19,8 @@ first_cell-requires-clause-node c =
 
 pub later_cell-requires-clause-sound : goal.later_cell-requires-clause-sound
 later_cell-requires-clause-sound c =
-    mention_sound (view_of c.args.self.now) c.open.new.draft.labels (statements c.open.new.draft) c.open.new.opened c.in_ok-node.node (Anonymous c.args.self.now.opened) c.in_ok-node.ensures.interns c.requires.sound
+    mention_sound (view_of c.args.self.now) c.open.new.draft.labels (statements c.open.new.draft) c.open.new.opened c.in_ok-node.node
+    (Anonymous c.args.self.now.opened) c.in_ok-node.ensures.interns c.requires.sound
 
 pub later_cell-requires-clause-node : goal.later_cell-requires-clause-node
 later_cell-requires-clause-node c =

@@ -1,12 +1,12 @@
-use Rattle.rdf_terms.specs.References.{term_of}
-use Rattle.rdf_terms.specs.Document.{statements}
+use Rattle.std.proofs.Common.{codes, refl}
+use Rattle.rdf_terms.proofs.Common.{term_of, statements}
+use Rattle.trig_terms.proofs.Datatypes.{rdf_valid}
 use Rattle.trig_builder.specs.Telling.{view_of}
-use Rattle.trig_builder.proofs.Names.{first_valid}
 use Rattle.trig_builder.proofs.Putting.{item_told}
 use Rattle.trig_builder.proofs.telling.Telling.put_item.Goals as goal
 
 pub say_in-requires-clause-valid_verb : goal.say_in-requires-clause-valid_verb
-say_in-requires-clause-valid_verb c = first_valid
+say_in-requires-clause-valid_verb c = rdf_valid (codes "first") refl refl
 
 pub returns-clause-tells : goal.returns-clause-tells
 returns-clause-tells c t said is h =

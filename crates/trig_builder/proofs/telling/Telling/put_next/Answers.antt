@@ -10,7 +10,8 @@ use Rattle.trig_builder.proofs.telling.Telling.put_next.Goals as goal
 
 pub put-requires-clause-sound : goal.put-requires-clause-sound
 put-requires-clause-sound c =
-    mention_sound (view_of c.args.self.now) c.open.new.draft.labels (statements c.open.new.draft) c.open.new.opened c.in_ok-node.node (Anonymous c.args.self.now.opened) c.in_ok-node.ensures.interns c.requires
+    mention_sound (view_of c.args.self.now) c.open.new.draft.labels (statements c.open.new.draft) c.open.new.opened c.in_ok-node.node
+    (Anonymous c.args.self.now.opened) c.in_ok-node.ensures.interns c.requires
 
 pub put-requires-clause-valid : goal.put-requires-clause-valid
 put-requires-clause-valid c = label_within c.args.self.now.draft.labels c.open.new.draft.labels (Anonymous c.args.self.now.opened) c.in_ok-node.node c.in_ok-node.ensures.interns

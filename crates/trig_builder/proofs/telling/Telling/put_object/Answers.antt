@@ -1,6 +1,5 @@
 use Rattle.std.proofs.Common.{◌≡◌}
-use Rattle.rdf_terms.specs.Document.{statements}
-use Rattle.rdf_terms.specs.References.{term_of}
+use Rattle.rdf_terms.proofs.Common.{statements, term_of}
 use Rattle.trig_builder.specs.declared.place.Place.TheVariants.{AtObject}
 use Rattle.trig_builder.specs.Telling.{view_of}
 use Rattle.trig_builder.proofs.Putting.{object_told}

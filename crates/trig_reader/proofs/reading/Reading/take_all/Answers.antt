@@ -49,7 +49,8 @@ pub returns-then-is_end-clause-taken : goal.returns-then-is_end-clause-taken
 returns-then-is_end-clause-taken c =
     let before = c.loop-token.invariant in
     let next = next_at c.args.text.now before.tokens c.loop-token.place c.loop-token.after_string c.in-Some.token before.place_is before.after_is c.in-Some.ensures.found in
-    taken_all c.args.text.now c.args.self.now before.tokens c.in-Some.token c.take.new.self (c.in_ok-take.ensures.taken c.args.self.now before.tokens before.taken next) before.no_end (c.is_end.ensures.0 c.if-is_end.true)
+    taken_all c.args.text.now c.args.self.now before.tokens c.in-Some.token c.take.new.self (c.in_ok-take.ensures.taken c.args.self.now before.tokens before.taken next) before.no_end
+    (c.is_end.ensures.0 c.if-is_end.true)
 
 pub loop-token-preserved : goal.loop-token-preserved
 loop-token-preserved c =
