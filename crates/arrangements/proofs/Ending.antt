@@ -1,13 +1,8 @@
 -- From the first arrangement the steps to the next come to a last.
 use Rattle.std.proofs.Common.{◌≡◌, ℕ, true, ◌⊎◌, List, [], ◌∷◌, inl, inr, refl, sym, subst}
-use Rattle.rdf_terms.specs.Lists.{In, Permutes, permutes_trans, is_at_most}
-use Rattle.rdf_terms.proofs.Permutations.{Permutes-refl, Permutes-sym}
-use Rattle.rdf_terms.proofs.TextOrder.{is_at_most-total}
+use Rattle.rdf_terms.proofs.Common.{In, Permutes, permutes_trans, is_at_most, Permutes-refl, Permutes-sym, is_at_most-total, AreStrictlyAscending, arrangements, In-arrangements, from_In-arrangements, arrangements-ascending}
 use Rattle.arrangements.specs.Arrangements.{IsFirst, IsNext, GoesThrough, at_last, goes_on, ComesToALast}
 use Rattle.arrangements.proofs.Order.{Below, AtMost, Below-is_before, is_at_most-AtMost, AtMost-is_at_most, Below-at_most, Below-irreflexive}
-use Rattle.rdf_terms.specs.Arrangements.{AreStrictlyAscending, arrangements}
-use Rattle.rdf_terms.proofs.Arrangements.{In-arrangements, from_In-arrangements}
-use Rattle.rdf_terms.proofs.AscendingArrangements.{arrangements-ascending}
 
 -- xs and the lists behind it are all the arrangements of its bag from xs on
 record AreTheRest (xs : List ℕ) (more : List (List ℕ)) : Type 0 where

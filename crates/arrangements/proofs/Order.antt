@@ -4,7 +4,7 @@ use Rattle.std.proofs.lemmas.Bool.Decides.{nat_tests}
 use Rattle.std.specs.Cmp.Lexicographic.{slice_cmp}
 use Rattle.std.specs.Ordering.{nat_cmp, is_gt, is_lt, ordering_then}
 use Rattle.std.specs.declared.cmp.Ordering.TheVariants.{Less, Equal, Greater}
-use Rattle.rdf_terms.specs.Lists.{is_before, is_at_most}
+use Rattle.rdf_terms.proofs.Common.{is_at_most-refl, is_before, is_at_most}
 
 -- at the first place where they differ, the first list has the lower number; or it is the front of the other
 abbrev pub Below : List ℕ → List ℕ → Type 0
@@ -41,10 +41,6 @@ Below-is_before (x ∷ xs) (y ∷ ys) h = by (three x y) h (Below-is_before xs y
     by (inr (inl e)) h ih = inr (e, ih (sym (ap (λ o. is_lt (ordering_then o (slice_cmp nat_cmp xs ys))) (same x y e)) ∙ h))
     by (inr (inr g)) h ih = absurd (true≢false (sym h ∙ ap (λ o. is_lt (ordering_then o (slice_cmp nat_cmp xs ys))) (more x y g)))
 
-pub is_at_most-itself : (xs : List ℕ) → is_at_most xs xs ≡ true
-is_at_most-itself [] = refl
-is_at_most-itself (x ∷ xs) = ap (λ o. not (is_gt (ordering_then o (slice_cmp nat_cmp xs xs)))) (same x x refl) ∙ is_at_most-itself xs
-
 pub is_at_most-Below : (xs ys : List ℕ) → Below xs ys → is_at_most xs ys ≡ true
 is_at_most-Below xs [] h = absurd h
 is_at_most-Below [] (y ∷ ys) h = refl
@@ -56,7 +52,7 @@ abbrev pub AtMost : List ℕ → List ℕ → Type 0
 AtMost xs ys = (xs ≡ ys) ⊎ Below xs ys
 
 pub is_at_most-AtMost : (xs ys : List ℕ) → AtMost xs ys → is_at_most xs ys ≡ true
-is_at_most-AtMost xs ys (inl e) = subst (λ zs. is_at_most xs zs ≡ true) e (is_at_most-itself xs)
+is_at_most-AtMost xs ys (inl e) = subst (λ zs. is_at_most xs zs ≡ true) e (is_at_most-refl xs)
 is_at_most-AtMost xs ys (inr h) = is_at_most-Below xs ys h
 
 pub AtMost-cons : (x : ℕ) (xs ys : List ℕ) → AtMost xs ys → AtMost (x ∷ xs) (x ∷ ys)

@@ -1,10 +1,8 @@
 -- The steps from one arrangement to the next, up to the last.
 use Rattle.std.proofs.Common.{◌≡◌, ℕ, List, inl, inr, refl, sym, subst}
-use Rattle.rdf_terms.specs.Lists.{In, Permutes, permutes_trans}
+use Rattle.rdf_terms.proofs.Common.{In, Permutes, permutes_trans, Permutes-refl, Permutes-sym, AreStrictlyAscending}
 use Rattle.arrangements.specs.Arrangements.{GoesThrough, at_last, goes_on, GoesThroughAll}
-use Rattle.rdf_terms.proofs.Permutations.{Permutes-refl, Permutes-sym}
 use Rattle.arrangements.proofs.Order.{AtMost, is_before-Below, Below-is_before, AtMost-is_at_most, Below-trans, Below-at_most, Below-irreflexive}
-use Rattle.rdf_terms.specs.Arrangements.{AreStrictlyAscending}
 
 both_at_most : (xs ys : List ℕ) → AtMost xs ys → AtMost ys xs → ys ≡ xs
 both_at_most xs ys (inl e) h = sym e

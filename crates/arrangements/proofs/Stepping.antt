@@ -3,14 +3,11 @@ use Rattle.std.proofs.Common.{◌≡◌, ℕ, zero, suc, ◌+◌, ◌<◌, ◌�
 use Rattle.std.specs.List.Sorted.{IsNonDecreasing}
 use Rattle.std.proofs.lemmas.List.Edits.{swap_is}
 use mathlib.Core.List.{reverse-cons}
-use Rattle.rdf_terms.specs.Lists.{In, Permutes, permutes_cons, permutes_trans}
+use Rattle.rdf_terms.proofs.Common.{In, Permutes, permutes_cons, permutes_trans, Permutes-sym, In-Permutes, length-Permutes, In-append, In-get_or, place_within}
 use Rattle.arrangements.specs.Arrangements.{IsFirst, IsLast, IsNext}
 use Rattle.arrangements.specs.Falling.{FallsFrom, IsLastRise, IsLastAbove}
-use Rattle.rdf_terms.proofs.Permutations.{Permutes-sym, In-Permutes, length-Permutes}
 use Rattle.arrangements.proofs.Permuting.{Permutes-rest, Permutes-reverse, traded}
 use Rattle.arrangements.proofs.Order.{Below, AtMost, AtMost-cons, three, is_before-Below, Below-is_before, is_at_most-AtMost, AtMost-is_at_most, Below-trans, Below-irreflexive}
-use Rattle.rdf_terms.proofs.Membership.{In-append}
-use Rattle.rdf_terms.proofs.MadeLists.{In-get_or, place_within}
 
 -- ---- lists that fall or climb
 
@@ -173,7 +170,11 @@ at_front x xs j p = record {
 
         by : (get_or xs j 0 < z) ⊎ ((get_or xs j 0 ≡ z) ⊎ (z < get_or xs j 0)) → AtMost (get_or xs j 0 ∷ reverse (set xs j x)) (z ∷ zs)
         by (inl l) = inr (inl l)
-        by (inr (inl e)) = subst (λ w. AtMost (get_or xs j 0 ∷ reverse (set xs j x)) (w ∷ zs)) e (AtMost-cons (get_or xs j 0) (reverse (set xs j x)) zs (climbs_first (reverse (set xs j x)) zs (climbs_reverse (set xs j x) (falls_with x xs j p)) (same_head (get_or xs j 0) z (reverse (set xs j x)) zs (sym e) (permutes_trans (Permutes-sym moved) q))))
+        by (inr (inl e)) =
+            subst (λ w. AtMost (get_or xs j 0 ∷ reverse (set xs j x)) (w ∷ zs)) e
+            (AtMost-cons (get_or xs j 0) (reverse (set xs j x)) zs
+            (climbs_first (reverse (set xs j x)) zs (climbs_reverse (set xs j x) (falls_with x xs j p))
+            (same_head (get_or xs j 0) z (reverse (set xs j x)) zs (sym e) (permutes_trans (Permutes-sym moved) q))))
         by (inr (inr g)) = let a = above in absurd (omega (arith, a))
 
 -- ---- a step behind a common front

@@ -1,7 +1,7 @@
--- The arrangements of a bag of nodes: the lists that have the same nodes, each as often. They stand in lexicographic order.
+-- The arrangements of a bag of nodes: the lists that have the same nodes, each as often. They stand in lexicographic
+-- order.
 use Rattle.std.specs.Prelude.{◌≡◌, ℕ, true, ◌↔◌, List, [], ◌∷◌}
-use Rattle.rdf_terms.specs.Lists.{In, Permutes, is_before, is_at_most}
-use Rattle.rdf_terms.specs.Arrangements.{AreStrictlyAscending}
+use Rattle.rdf_terms.specs.Vocabulary.{In, Permutes, is_before, is_at_most, AreStrictlyAscending}
 
 -- no arrangement of the bag stands before xs
 pub record IsFirst (bag xs : List ℕ) : Type 0 where
@@ -32,7 +32,8 @@ pub record AreAllArrangements (bag : List ℕ) (all : List (List ℕ)) : Type 0 
 
 -- from the first arrangement of a bag on, the steps up to the last come by all its arrangements
 abbrev pub GoesThroughAll : Type 0
-GoesThroughAll = (bag xs : List ℕ) (all : List (List ℕ)) → IsFirst bag xs → GoesThrough xs all → AreAllArrangements bag all
+GoesThroughAll =
+    (bag xs : List ℕ) (all : List (List ℕ)) → IsFirst bag xs → GoesThrough xs all → AreAllArrangements bag all
 
 -- each bag has a first arrangement, and from it the steps come to a last
 abbrev pub ComesToALast : Type 0

@@ -1,14 +1,7 @@
 -- Nodes that have no identifier yet are issued for in turn.
 use Rattle.std.proofs.Common.{Bool, List, None, Option, Some, [], ap, cond, eqb, eqb-true, false, inl, inr, is_some, refl, subst, sym, true, ℕ, ◌++◌, ◌∙◌, ◌∷◌, ◌≡◌, append_assoc}
-use Rattle.rdf_terms.specs.CanonicalForm.{after_first, place_of}
-use Rattle.rdf_terms.specs.Lists.{AreDistinct, In}
-use Rattle.rdf_terms.proofs.Membership.{In-append_right}
+use Rattle.rdf_terms.proofs.Common.{after_first, place_of, AreDistinct, In, absent_before}
 use Rattle.id_issuer.specs.IssuedList.{list_with}
-
-not_in-front : (l rest : List ℕ) (n : ℕ) → AreDistinct (l ++ n ∷ rest) → ¬ (In n l)
-not_in-front [] rest n d h = h
-not_in-front (x ∷ l) rest n d (inl e) = d.0 (In-append_right l (n ∷ rest) x (inl (sym e)))
-not_in-front (x ∷ l) rest n d (inr h) = not_in-front l rest n d.1 h
 
 is_some-after_first : (p : Option ℕ) → is_some (after_first p) ≡ is_some p
 is_some-after_first None = refl
@@ -25,5 +18,5 @@ no_place (x ∷ l) n h = by (eqb x n) refl (no_place l n (λ m. h (inr m)))
 -- the next of them goes last
 pub issued-next : (l rest all u : List ℕ) (n : ℕ) → l ++ n ∷ rest ≡ all → AreDistinct all → u ≡ list_with l n → u ++ rest ≡ all
 issued-next l rest all u n e d is =
-    let new : list_with l n ≡ l ++ n ∷ [] = ap (λ b. cond b l (l ++ n ∷ [])) (no_place l n (not_in-front l rest n (subst AreDistinct (sym e) d))) in
+    let new : list_with l n ≡ l ++ n ∷ [] = ap (λ b. cond b l (l ++ n ∷ [])) (no_place l n (absent_before l rest n (subst AreDistinct (sym e) d))) in
     ap (λ v. v ++ rest) (is ∙ new) ∙ append_assoc l (n ∷ []) rest ∙ e

@@ -1,8 +1,9 @@
 -- The place of a node, by the searches of a set of numbers.
-use Rattle.std.proofs.Common.{◌≡◌, ℕ, suc, ◌+◌, Bool, true, false, cond, not, eqb, ltb, ◌||◌, List, [], ◌∷◌, ◌++◌, length, Option, Some, None, is_some, if◌then◌else◌, position, refl, sym, ap, ◌∙◌, subst, arith, eq-eqb, true≢false}
+use Rattle.std.proofs.Common.{◌≡◌, ℕ, suc, ◌+◌, ◌<◌, All, Bool, true, false, cond, not, eqb, ltb, ◌||◌, List, [], ◌∷◌, ◌++◌, length, Option, Some, None, is_some, if◌then◌else◌, position, refl, sym, ap, ◌∙◌, subst, arith, eq-eqb, true≢false}
 use Rattle.std.specs.List.{list_any, position_or_len}
 use Rattle.std.proofs.lemmas.Bool.Decides.{nat_tests}
 use Rattle.rdf_terms.specs.CanonicalForm.{place_of, after_first}
+use Rattle.std.proofs.lemmas.List.Elements.{All-append, All-cons, All-nil}
 use Rattle.indexmap.specs.IndexSet.{insert_key}
 use Rattle.id_issuer.specs.IssuedList.{list_with}
 
@@ -62,3 +63,13 @@ place_of-insert_key ks n = by (list_any (eqb n) ks) refl
 
 pub insert_key-list_with : (ks : List ℕ) (n : ℕ) → insert_key eqb ks n ≡ list_with ks n
 insert_key-list_with ks n = ap (λ b. if b then ks else ks ++ n ∷ []) (list_any-place_of ks n)
+
+pub All-insert_key : (N : ℕ) (ks : List ℕ) (n : ℕ) → n < N → All (λ k. k < N) ks → All (λ k. k < N) (insert_key eqb ks n)
+All-insert_key N ks n lt below = by (list_any (eqb n) ks)
+  where
+    one : All (λ k. k < N) (n ∷ [])
+    one = All-cons (λ k. k < N) n [] lt (All-nil (λ k. k < N))
+
+    by : (b : Bool) → All (λ k. k < N) (if b then ks else ks ++ n ∷ [])
+    by true = below
+    by false = All-append (λ k. k < N) ks (n ∷ []) below one

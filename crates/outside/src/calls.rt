@@ -7,10 +7,10 @@ ghost use Rattle.outside.specs.FaultPlan.{FaultPlan, unused, FailsNext, after_ca
 
 use std::marker::Model;
 
-/// Counts the calls of a shelf or sink in memory from 0, and knows which of them are to fail.
-/// Both counts stay at the last number of 64 bits.
+// Counts the calls of a shelf or sink in memory from 0, and knows which of them are to fail.
+// Both counts stay at the last number of 64 bits.
 #[derive(Drop)]
-pub struct Calls {
+pub(crate) struct Calls {
     failing: Vec<u64>,
     calls: u64,
     faults: u64,
@@ -29,7 +29,7 @@ fn is_among(number: u64, numbers: &[u64]) -> bool
 }
 
 impl Calls {
-    pub fn new(failing: Vec<u64>) -> Self
+    pub(crate) fn new(failing: Vec<u64>) -> Self
         ensures { result ≡ unused failing.items }
     {
         Calls {
@@ -39,8 +39,8 @@ impl Calls {
         }
     }
 
-    /// Counts a call, and says whether it is told to fail.
-    pub fn count(&mut self) -> bool
+    // Counts a call, and says whether it is told to fail.
+    pub(crate) fn count(&mut self) -> bool
         ensures fails { IsTrue result ↔ FailsNext self.old }
         ensures counted { self.new ≡ after_call self.old }
     {
@@ -49,8 +49,8 @@ impl Calls {
         is_among(call, &self.failing)
     }
 
-    /// Counts that the last call failed.
-    pub fn fail(&mut self)
+    // Counts that the last call failed.
+    pub(crate) fn fail(&mut self)
         ensures counted { self.new ≡ record self.old { faults = one_more self.old.faults } }
         ensures never_fell { self.old.faults ≤ self.new.faults }
     {

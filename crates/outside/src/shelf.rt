@@ -4,9 +4,20 @@ ghost use Rattle.std.specs.Prelude.{◌≡◌, ℕ, ◌≤◌, List, Option, Non
 ghost use Rattle.outside.specs.Faults.{HasCause};
 ghost use Rattle.outside.specs.Reads.{Takes};
 
+use std::error::Error;
+use std::fmt;
+
 /// A call on the outside failed.
 #[derive(Clone, Copy, Debug, PartialEq, Eq)]
 pub struct Failed;
+
+impl fmt::Display for Failed {
+    fn fmt<W: fmt::Write>(&self, f: &mut fmt::Formatter<W>) -> fmt::Result {
+        f.write_str("a call on the outside failed")
+    }
+}
+
+impl Error for Failed {}
 
 /// Files by name, of which one at a time is started and then read from its front.
 pub trait Shelf {

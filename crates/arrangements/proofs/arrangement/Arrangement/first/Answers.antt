@@ -1,7 +1,6 @@
 use Rattle.std.proofs.Common.{subst}
-use Rattle.rdf_terms.specs.Lists.{Permutes}
+use Rattle.rdf_terms.proofs.Common.{Permutes, Permutes-from_IsPermutation}
 use Rattle.std.proofs.lemmas.List.Sorted.{IsNonDecreasingBy-from_sort}
-use Rattle.rdf_terms.proofs.Permutations.{Permutes-from_IsPermutation}
 use Rattle.arrangements.proofs.Stepping.{ascending_is_first}
 use Rattle.arrangements.proofs.arrangement.Arrangement.first.Goals as goal
 

@@ -1,15 +1,17 @@
 use Rattle.std.proofs.Common.{◌<◌, All, Some, sym, ap, ◌∙◌, subst}
-use Rattle.rdf_terms.specs.CanonicalForm.{place_of}
+use Rattle.rdf_terms.proofs.Common.{place_of, each-from_All, AreDistinct-from_IsDistinct, length-distinct_below}
 use Rattle.id_issuer.specs.IssuedList.{list_with}
-use Rattle.id_issuer.proofs.Places.{place_of-insert_key, insert_key-list_with}
-use Rattle.id_issuer.proofs.Apart.{length-distinct_below, All-insert_key}
+use Rattle.id_issuer.proofs.Places.{place_of-insert_key, insert_key-list_with, All-insert_key}
 use Rattle.rdf_terms.specs.declared.limits.TheConstants.{MOST_NUMBERS}
 use Rattle.id_issuer.proofs.issuer.Issuer.issue.Goals as goal
 
 pub invariant_of-self-2 : goal.invariant_of-self-2
 invariant_of-self-2 c =
-    let below = subst (All (λ k. k < MOST_NUMBERS)) (sym c.in_ok-place.ensures.keys) (All-insert_key MOST_NUMBERS c.self.inside.nodes.keys c.args.node c.requires c.self.invariant.1) in
-    (length-distinct_below MOST_NUMBERS c.insert_full.new.self.keys c.insert_full.ensures.unique below, below)
+    let below = subst (All (λ k. k < MOST_NUMBERS)) (sym c.in_ok-place.ensures.keys) (All-insert_key MOST_NUMBERS c.self.inside.nodes.keys c.args.node c.requires c.self.invariant.1) in (
+      length-distinct_below c.insert_full.new.self.keys MOST_NUMBERS (AreDistinct-from_IsDistinct _ c.insert_full.ensures.unique)
+          (λ n. each-from_All (λ k. k < MOST_NUMBERS) c.insert_full.new.self.keys n below),
+      below,
+    )
 
 pub returns-clause-place : goal.returns-clause-place
 returns-clause-place c =

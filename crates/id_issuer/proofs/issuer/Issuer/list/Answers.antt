@@ -1,6 +1,5 @@
 use Rattle.std.proofs.Common.{ap, subst}
-use Rattle.rdf_terms.specs.Lists.{AreDistinct}
-use Rattle.id_issuer.proofs.Apart.{AreDistinct-from_IsDistinct}
+use Rattle.rdf_terms.proofs.Common.{AreDistinct, AreDistinct-from_IsDistinct}
 use Rattle.id_issuer.proofs.issuer.Issuer.list.Goals as goal
 
 pub returns-clause-distinct : goal.returns-clause-distinct
