@@ -1,35 +1,28 @@
 -- A document whose quads were put in another order, and what is told of its nodes.
-use Rattle.std.proofs.Common.{◌≡◌, ℕ, ◌<◌, ◌⊎◌, ◌↔◌, IsTrue, Bool, true, false, ◌||◌, List, [], ◌∷◌, Option, Some, None, IfSome, Result, IfOk, All, map, length, get_or, slice_get, inl, inr, refl, sym, ap, ◌∙◌, subst, true≢false, eqb-true, arith}
+use Rattle.std.proofs.Common.{◌≡◌, ℕ, ◌<◌, ◌⊎◌, ◌↔◌, IsTrue, Bool, true, ◌||◌, List, [], ◌∷◌, Option, Some, None, IfSome, Result, IfOk, All, map, length, get_or, slice_get, inl, inr, refl, sym, ap, ◌∙◌, subst, true≢false, eqb-true, arith}
 use Rattle.std.specs.List.Sorted.{IsPermutation}
 use Rattle.std.proofs.lemmas.List.{length-map}
 use Rattle.std.proofs.lemmas.List.Sorted.{All-permutation, IsPermutation-map, length_permutation}
-use Rattle.std.proofs.lemmas.Option.{slice_get_within, get_or_from_slice_get, slice_get-get_or}
+use Rattle.std.proofs.lemmas.Option.{slice_get-get_or}
 use Rattle.std.proofs.lemmas.Result.{IfOk-weaker}
-use Rattle.rdf_terms.specs.Lists.{In, AreDistinct, Permutes, numbers_below}
-use Rattle.rdf_terms.specs.Terms.{Statement, IsValidStatement, IsValidTerm}
-use Rattle.rdf_terms.specs.Dataset.{IsUsed, mentions, is_node, is_named_by}
-use Rattle.rdf_terms.specs.Document.{Document, IsDocument, IsInRange, statement, statements, term_at, graph_name_at}
+use Rattle.rdf_terms.proofs.Common.{In, AreDistinct, Permutes, numbers_below, Statement, IsValidStatement, IsUsed, mentions, is_node, is_named_by, Document, IsDocument, IsInRange, statement, statements, term_at, graph_name_at, In-at, In-map, from_In-map, Permutes-from_IsPermutation, Permutes-map, AreDistinct-Permutes, In-Permutes, from_In-filter, each-from_All, length-numbers_below, map-numbers_below}
 use Rattle.rdf_terms.specs.Lexicon.{Lexicon}
 use Rattle.rdf_terms.specs.declared.term.Term.{Term}
 use Rattle.rdf_terms.specs.declared.term.Term.TheVariants.{Iri, Blank, Literal}
 use Rattle.rdf_terms.specs.declared.term.Quad.{Quad}
 use Rattle.rdf_terms.specs.declared.term.Label.{Label}
-use Rattle.rdf_terms.proofs.Membership.{In-at, place_in, In-map, from_In-map}
-use Rattle.rdf_terms.proofs.Permutations.{Permutes-from_IsPermutation, Permutes-map, AreDistinct-Permutes, In-Permutes}
 use Rattle.rdf_terms.proofs.Adding.{statement_injective}
 use Rattle.dataset_index.specs.declared.mention.Mention.{Mention}
 use Rattle.dataset_index.specs.ByKey.{of_key}
-use Rattle.dataset_index.specs.Mentions.{mentioned_by, noted_places, places_of, NotesPlaces, places_before}
+use Rattle.dataset_index.specs.Mentions.{mentioned_by, mention_places, places_of, AreMentions, places_before}
 use Rattle.dataset_index.specs.NodeTerms.{NumbersNodes}
 use Rattle.dataset_index.specs.HeldNodes.{AreNodesBelow}
 use Rattle.dataset_index.specs.Indexed.{IsIndexed, with_quads}
 use Rattle.dataset_index.specs.QuadOrder.{Ascend}
 use Rattle.dataset_index.proofs.Keys.{In-of_key}
 use Rattle.dataset_index.proofs.Numbers.{slice_get-map_numbers_below}
-use Rattle.rdf_terms.proofs.MadeLists.{from_In-filter, each-from_All}
 use Rattle.std.proofs.lemmas.Bool.{or_cases}
 use Rattle.rdf_terms.proofs.Finishing.{mentioned_low}
-use Rattle.rdf_terms.proofs.Ranks.{length-numbers_below, map-numbers_below}
 
 pub AreDistinct-from_map : {A B : Type 0} (f : A → B) (xs : List A) → AreDistinct (map f xs) → AreDistinct xs
 AreDistinct-from_map f [] h = tt
@@ -104,17 +97,17 @@ node_below d is n k at = In_below d is n (In-at d.terms k (Blank n) at)
 pub AreNodesBelow-terms : (d : Document) → IsDocument d → AreNodesBelow d.terms
 AreNodesBelow-terms d is n there = let l = In_below d is n there in let b = is.draft.labels_bound in omega arith
 
--- only nodes of the document are noted
+-- only nodes of the document are mentioned
 mentioned_at : (d : Document) → IsDocument d → (n k : ℕ) (o : Option Statement) → slice_get (statements d) k ≡ o → mentioned_by n o ≡ true → n < length d.labels
 mentioned_at d is n k None at h = absurd (true≢false (sym h))
 mentioned_at d is n k (Some st) at h =
     mentioned_low (length d.labels) n st (each-from_All (IsValidStatement (length d.labels)) (statements d) st is.draft.valid (In-at (statements d) k st at)) h
 
-pub noted_below : (d : Document) (notes : List Mention) (end : ℕ) → IsDocument d → NotesPlaces (statements d) notes end → All (λ m. m.node < length d.labels) notes
-noted_below d notes end is noted i e l =
-    let m = get_or notes i e in
-    let own = In-of_key (λ m. m.node) m notes (In-at notes i m (slice_get-get_or notes i e l)) in
-    let there = subst (In m.place) (noted m.node) (In-map (λ m. m.place) (of_key (λ m. m.node) m.node notes) m own) in
+pub mentioned_below : (d : Document) (mentions : List Mention) (end : ℕ) → IsDocument d → AreMentions (statements d) mentions end → All (λ m. m.node < length d.labels) mentions
+mentioned_below d mentions end is told i e l =
+    let m = get_or mentions i e in
+    let own = In-of_key (λ m. m.node) m mentions (In-at mentions i m (slice_get-get_or mentions i e l)) in
+    let there = subst (In m.place) (told m.node) (In-map (λ m. m.place) (of_key (λ m. m.node) m.node mentions) m own) in
     mentioned_at d is m.node m.place (slice_get (statements d) m.place) refl (from_In-filter (λ k. mentioned_by m.node (slice_get (statements d) k)) m.place (numbers_below end) there).1
 
 -- the number of the term of a node that a quad mentions
@@ -147,17 +140,19 @@ node_numbered d is n l =
 
 -- ---- the whole
 
-pub indexed : (d : Document) (numbers : List ℕ) (notes : List Mention) (index : List (List ℕ)) → AreDistinct d.terms → IsDocument d → Ascend d.quads
+pub indexed : (d : Document) (numbers : List ℕ) (mentions : List Mention) (index : List (List ℕ)) → AreDistinct d.terms → IsDocument d → Ascend d.quads
     → length numbers ≡ length d.labels → NumbersNodes d.terms numbers (length d.terms)
-    → NotesPlaces (statements d) notes (length d.quads) → index ≡ map (noted_places notes) (numbers_below (length d.labels))
+    → AreMentions (statements d) mentions (length d.quads) → index ≡ map (mention_places mentions) (numbers_below (length d.labels))
     → IsIndexed d numbers index
-indexed d numbers notes index distinct is up count at noted made = record {
+indexed d numbers mentions index distinct is up count at told made = record {
   document = is;
   distinct_terms = distinct;
   ascend = up;
   numbers_count = count;
   numbers_are = λ n l. number n (node_numbered d is n l);
-  index_is = made ∙ map-numbers_below (noted_places notes) (places_of (statements d)) (length d.labels) (λ n l. noted n ∙ ap (λ k. places_before (statements d) k n) (sym (length-map d.quads (statement d.terms))));
+  index_is =
+      made ∙ map-numbers_below (mention_places mentions) (places_of (statements d)) (length d.labels)
+      (λ n l. told n ∙ ap (λ k. places_before (statements d) k n) (sym (length-map d.quads (statement d.terms))));
 }
   where
     number : (n : ℕ) → Numbered d.terms n → slice_get d.terms (get_or numbers n 0) ≡ Some (Blank n)
@@ -178,7 +173,8 @@ indexed_without_nodes d numbers index none distinct is up no_numbers no_lists = 
 pub index_count : (d : Document) (numbers : List ℕ) (index : List (List ℕ)) → IsIndexed d numbers index → length index ≡ length d.labels
 index_count d numbers index i = ap length i.index_is ∙ length-map (numbers_below (length d.labels)) (places_of (statements d)) ∙ length-numbers_below (length d.labels)
 
-pub index_at : (d : Document) (numbers : List ℕ) (index : List (List ℕ)) → IsIndexed d numbers index → (n : ℕ) (places : List ℕ) → n < length d.labels → slice_get index n ≡ Some places → places ≡ places_of (statements d) n
+pub index_at : (d : Document) (numbers : List ℕ) (index : List (List ℕ)) → IsIndexed d numbers index → (n : ℕ) (places : List ℕ) → n < length d.labels → slice_get index n ≡ Some places
+    → places ≡ places_of (statements d) n
 index_at d numbers index i n places l h = same (sym h ∙ ap (λ x. slice_get x n) i.index_is ∙ slice_get-map_numbers_below (places_of (statements d)) (length d.labels) n l)
   where
     same : Some places ≡ Some (places_of (statements d) n) → places ≡ places_of (statements d) n

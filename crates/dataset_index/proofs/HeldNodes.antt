@@ -2,10 +2,9 @@
 use Rattle.std.proofs.Common.{◌≡◌, ℕ, ◌<◌, if◌then◌else◌, List, Some, None, length, refl, ap, ◌∙◌, arith}
 use Rattle.std.proofs.lemmas.Bool.{ne_eqb}
 use Rattle.std.proofs.lemmas.Option.{slice_get-get_or}
-use Rattle.rdf_terms.specs.Document.{term_at}
+use Rattle.rdf_terms.proofs.Common.{term_at, In-at}
 use Rattle.rdf_terms.specs.declared.term.Term.{Term}
 use Rattle.rdf_terms.specs.declared.term.Term.TheVariants.{Iri, Blank, Literal}
-use Rattle.rdf_terms.proofs.Membership.{In-at}
 use Rattle.dataset_index.specs.declared.term_nodes.TheConstants.{NO_NODE}
 use Rattle.dataset_index.specs.Mentions.{node_in}
 use Rattle.dataset_index.specs.HeldNodes.{held_for, node_held, AreNodesBelow}

@@ -1,6 +1,6 @@
 pub mod Defaults
 pub mod Numbers
-pub mod Noting
+pub mod Mentioning
 pub mod Searching
 pub mod Keys
 pub mod NodeStarts

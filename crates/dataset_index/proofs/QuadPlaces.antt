@@ -1,13 +1,10 @@
 -- What stands at those places of a list that pass a test, and the places of the quads that mention a node.
-use Rattle.std.proofs.Common.{◌≡◌, ℕ, zero, suc, ◌+◌, ◌<◌, ◌≤◌, Bool, true, false, cond, List, [], ◌∷◌, ◌++◌, map, filter, length, take, get_or, Option, Some, None, slice_get, add-one, refl, sym, ap, subst, ◌∙◌, arith, All}
+use Rattle.std.proofs.Common.{◌≡◌, ℕ, zero, suc, ◌<◌, ◌≤◌, Bool, true, false, cond, List, [], ◌∷◌, ◌++◌, map, filter, length, take, get_or, Option, Some, None, slice_get, add-one, refl, sym, ap, subst, ◌∙◌, arith, All}
 use Rattle.std.proofs.lemmas.List.{length-map, map-append, take_all}
 use Rattle.std.proofs.lemmas.List.Elements.{filter-append, filter_more, All-filter, All-get_or, All-append}
 use Rattle.std.proofs.lemmas.Option.{slice_get-get_or}
-use Rattle.rdf_terms.specs.Lists.{numbers_below}
-use Rattle.rdf_terms.specs.Terms.{Statement}
-use Rattle.rdf_terms.specs.Dataset.{mentions}
+use Rattle.rdf_terms.proofs.Common.{numbers_below, Statement, mentions, Document, statement, statements}
 use Rattle.rdf_terms.specs.declared.term.Term.TheVariants.{Blank}
-use Rattle.rdf_terms.specs.Document.{Document, statement, statements}
 use Rattle.dataset_index.specs.Mentions.{mentioned_by, places_of}
 
 module _ {X Y : Type 0} (f : ℕ → Y) (g : X → Y) where
@@ -39,7 +36,8 @@ no_statement : Statement
 no_statement = record { subject = Blank 0; predicate = Blank 0; object = Blank 0; graph_name = None }
 
 -- what is told of the quads at the places of those that mention a node is told of these quads
-pub map_at_places : {Y : Type 0} (h : Option Statement → Y) (d : Document) (n : ℕ) → map (λ k. h (slice_get (statements d) k)) (places_of (statements d) n) ≡ map (λ (st : Statement). h (Some st)) (filter (mentions n) (statements d))
+pub map_at_places : {Y : Type 0} (h : Option Statement → Y) (d : Document) (n : ℕ) → map (λ k. h (slice_get (statements d) k)) (places_of (statements d) n) ≡ map (λ (st : Statement). h (Some st))
+    (filter (mentions n) (statements d))
 map_at_places h d n =
     kept_at_places (λ k. h (slice_get (statements d) k)) (λ (st : Statement). h (Some st)) (statements d) no_statement (λ k. mentioned_by n (slice_get (statements d) k)) (mentions n)
     (λ k l. ap (mentioned_by n) (slice_get-get_or (statements d) k no_statement l))

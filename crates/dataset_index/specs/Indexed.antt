@@ -1,7 +1,6 @@
 -- A document whose quads ascend, with an index of its nodes.
 use Rattle.std.specs.Prelude.{◌≡◌, ℕ, ◌<◌, List, Some, map, length, slice_get, slice_index}
-use Rattle.rdf_terms.specs.Lists.{AreDistinct, numbers_below}
-use Rattle.rdf_terms.specs.Document.{Document, IsDocument, statements}
+use Rattle.rdf_terms.specs.Vocabulary.{AreDistinct, numbers_below, Document, IsDocument, statements}
 use Rattle.rdf_terms.specs.Lexicon.{Lexicon}
 use Rattle.rdf_terms.specs.declared.term.Quad.{Quad}
 use Rattle.rdf_terms.specs.declared.term.Term.TheVariants.{Blank}

@@ -10,7 +10,7 @@ ghost use Rattle.dataset_index.specs.QuadOrder.{Ascend};
 ghost use Rattle.dataset_index.specs.Indexed.{with_quads};
 
 use crate::by_subject::in_order;
-use crate::mentions::note_all;
+use crate::mentions::all_mentions;
 use crate::node_index::NodeIndex;
 use crate::node_terms::node_terms;
 use crate::term_nodes::TermNodes;
@@ -84,9 +84,9 @@ impl Dataset {
         let nodes = lexicon.labels().len();
         let term_nodes = TermNodes::of(alloc, lexicon.terms())?;
         let node_terms = node_terms(alloc, &term_nodes, nodes)?;
-        let notes = note_all(alloc, &term_nodes, quads.as_slice())?;
+        let mentions = all_mentions(alloc, &term_nodes, quads.as_slice())?;
         drop(term_nodes);
-        let index = NodeIndex::build(alloc, nodes as u32, notes.as_slice())?;
+        let index = NodeIndex::build(alloc, nodes as u32, mentions.as_slice())?;
         Ok(Dataset {
             lexicon,
             quads,

@@ -16,19 +16,26 @@ pub in_order-requires-clause-bound : goal.in_order-requires-clause-bound
 in_order-requires-clause-bound c = subst (λ qs. length qs ≤ MOST_QUADS) (sym c.quads.ensures.quads) c.quads.ensures.document.draft.quads_bound
 
 pub without_nodes-requires-clause-document : goal.without_nodes-requires-clause-document
-without_nodes-requires-clause-document c = IsDocument-with_quads c.args.parsed _ _ c.quads.ensures.quads c.in_ok-quads.ensures.permutes c.into_lexicon-lexicon.result c.into_lexicon-lexicon.ensures c.quads.ensures.document
+without_nodes-requires-clause-document c =
+    IsDocument-with_quads c.args.parsed _ _ c.quads.ensures.quads c.in_ok-quads.ensures.permutes c.into_lexicon-lexicon.result c.into_lexicon-lexicon.ensures c.quads.ensures.document
 
 pub with_nodes-requires-clause-document : goal.with_nodes-requires-clause-document
-with_nodes-requires-clause-document c = IsDocument-with_quads c.args.parsed _ _ c.quads.ensures.quads c.in_ok-quads.ensures.permutes c.into_lexicon-lexicon.result c.into_lexicon-lexicon.ensures c.quads.ensures.document
+with_nodes-requires-clause-document c =
+    IsDocument-with_quads c.args.parsed _ _ c.quads.ensures.quads c.in_ok-quads.ensures.permutes c.into_lexicon-lexicon.result c.into_lexicon-lexicon.ensures c.quads.ensures.document
 
 pub returns-then-is_empty-clause-quads : goal.returns-then-is_empty-clause-quads
-returns-then-is_empty-clause-quads c = quads_permuted c.args.parsed _ _ c.quads.ensures.quads c.in_ok-quads.ensures.permutes c.into_lexicon-lexicon.result c.into_lexicon-lexicon.ensures c.without_nodes.result c.without_nodes.ensures
+returns-then-is_empty-clause-quads c =
+    quads_permuted c.args.parsed _ _ c.quads.ensures.quads c.in_ok-quads.ensures.permutes c.into_lexicon-lexicon.result c.into_lexicon-lexicon.ensures c.without_nodes.result c.without_nodes.ensures
 
 pub returns-else-is_empty-clause-quads : goal.returns-else-is_empty-clause-quads
-returns-else-is_empty-clause-quads c = quads_permuted c.args.parsed _ _ c.quads.ensures.quads c.in_ok-quads.ensures.permutes c.into_lexicon-lexicon.result c.into_lexicon-lexicon.ensures c.with_nodes.result c.with_nodes.ensures
+returns-else-is_empty-clause-quads c =
+    quads_permuted c.args.parsed _ _ c.quads.ensures.quads c.in_ok-quads.ensures.permutes c.into_lexicon-lexicon.result c.into_lexicon-lexicon.ensures c.with_nodes.result c.with_nodes.ensures
 
 pub returns-then-is_empty-clause-statements : goal.returns-then-is_empty-clause-statements
-returns-then-is_empty-clause-statements c = statements_permuted c.args.parsed _ _ c.quads.ensures.quads c.in_ok-quads.ensures.permutes c.into_lexicon-lexicon.result c.into_lexicon-lexicon.ensures c.without_nodes.result c.without_nodes.ensures
+returns-then-is_empty-clause-statements c =
+    statements_permuted c.args.parsed _ _ c.quads.ensures.quads c.in_ok-quads.ensures.permutes c.into_lexicon-lexicon.result c.into_lexicon-lexicon.ensures c.without_nodes.result
+    c.without_nodes.ensures
 
 pub returns-else-is_empty-clause-statements : goal.returns-else-is_empty-clause-statements
-returns-else-is_empty-clause-statements c = statements_permuted c.args.parsed _ _ c.quads.ensures.quads c.in_ok-quads.ensures.permutes c.into_lexicon-lexicon.result c.into_lexicon-lexicon.ensures c.with_nodes.result c.with_nodes.ensures
+returns-else-is_empty-clause-statements c =
+    statements_permuted c.args.parsed _ _ c.quads.ensures.quads c.in_ok-quads.ensures.permutes c.into_lexicon-lexicon.result c.into_lexicon-lexicon.ensures c.with_nodes.result c.with_nodes.ensures

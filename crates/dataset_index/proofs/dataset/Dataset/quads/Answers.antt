@@ -1,6 +1,5 @@
 use Rattle.std.proofs.Common.{subst}
-use Rattle.rdf_terms.specs.Lists.{AreDistinct}
-use Rattle.rdf_terms.specs.Document.{statement}
+use Rattle.rdf_terms.proofs.Common.{AreDistinct, statement}
 use Rattle.dataset_index.proofs.Building.{AreDistinct-from_map}
 use Rattle.dataset_index.proofs.dataset.Dataset.quads.Goals as goal
 
