@@ -7,7 +7,7 @@ pub mod Splitting
 mod Fronts
 mod Groups
 mod Stretches
-pub mod FrontOrder
+pub mod NumberOrder
 mod MovedKeys
 pub mod Unescaping
 pub mod TermTexts

@@ -1,8 +1,6 @@
 -- A line that was appended place by place.
 use Rattle.std.proofs.Common.{◌≡◌, ◌++◌, ap, ◌∙◌, append_assoc, codes}
-use Rattle.rdf_terms.specs.Lists.{Text}
-use Rattle.rdf_terms.specs.Terms.{Statement}
-use Rattle.rdf_terms.specs.CanonicalForm.{Naming, canonical_line, canonical_term, canonical_graph_name}
+use Rattle.rdf_terms.proofs.Common.{Text, Statement, Naming, canonical_line, canonical_term, canonical_graph_name}
 use Rattle.canonical_writer.specs.Runs.{line_start, line_rest}
 
 -- after each place stands what was there before it, and the place

@@ -1,9 +1,7 @@
 -- A statement is known by its canonical line, and a line has a line feed at its end alone.
 use Rattle.std.proofs.Common.{◌≡◌, ◌≢◌, ℕ, ◌≤◌, List, [], ◌∷◌, ◌++◌, Option, Some, None, All, IfSome, refl, sym, ap, ◌∙◌, arith, append_assoc, length, length-append}
 use Rattle.std.proofs.lemmas.List.Elements.{All-head, All-tail, All-append, All-weaker, All-nil}
-use Rattle.rdf_terms.specs.Lists.{Text, joined}
-use Rattle.rdf_terms.specs.Terms.{Statement, IsValidStatement, IsValidTerm}
-use Rattle.rdf_terms.specs.CanonicalForm.{Naming, canonical_term, canonical_graph_name, canonical_line}
+use Rattle.rdf_terms.proofs.Common.{Text, joined, Statement, IsValidStatement, IsValidTerm, Naming, canonical_term, canonical_graph_name, canonical_line}
 use Rattle.rdf_terms.specs.declared.term.Term.{Term}
 use Rattle.canonical_writer.specs.Determined.{HasPlainNames, Agree, AgreeGraphNames}
 use Rattle.canonical_writer.proofs.Splitting.{head_of, split_at}

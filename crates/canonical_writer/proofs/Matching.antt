@@ -1,7 +1,6 @@
 -- Lists whose images are the same up to order.
-use Rattle.std.proofs.Common.{◌≡◌, List, [], ◌∷◌, map, All, refl, sym, inl, inr}
-use Rattle.rdf_terms.specs.Lists.{In, Permutes, permutes_nil, permutes_cons, permutes_swap, permutes_trans}
-use Rattle.rdf_terms.proofs.Permutations.{In-Permutes, Permutes-map, Permutes-from_equal, Permutes-sym}
+use Rattle.std.proofs.Common.{◌≡◌, List, [], ◌∷◌, map, refl, sym, inl, inr}
+use Rattle.rdf_terms.proofs.Common.{In, Permutes, permutes_nil, permutes_cons, permutes_swap, permutes_trans, In-Permutes, Permutes-map, Permutes-from_equal, Permutes-sym}
 
 module _ {A C : Type 0} (f : A → C) where
   -- images in another order are the images of the list in another order

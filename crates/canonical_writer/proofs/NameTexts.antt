@@ -3,11 +3,9 @@ use Rattle.std.proofs.Common.{◌≡◌, ℕ, List, ◌∷◌, Option, Some, Non
 use Rattle.std.specs.Char.{is_ascii_alphanumeric}
 use Rattle.std.proofs.lemmas.Bool.Decides.{nat_tests}
 use Rattle.std.proofs.lemmas.List.Elements.{All-cons, All-weaker, All-nil}
-use Rattle.rdf_terms.specs.Numeral.{numeral}
-use Rattle.rdf_terms.specs.CanonicalForm.{place_of, issued_name, issued_names, identifier, identifier_at, name_or_nothing}
+use Rattle.rdf_terms.proofs.Common.{numeral, place_of, issued_name, issued_names, identifier, identifier_at, name_or_nothing, IsDigit, All-numeral, numeral-injective, identifier-injective}
 use Rattle.rdf_terms.specs.declared.term.Prefix.{Prefix}
 use Rattle.rdf_terms.specs.declared.term.Prefix.TheVariants.{Canonical, Temporary}
-use Rattle.rdf_terms.proofs.Numerals.{IsDigit, All-numeral, numeral-injective, identifier-injective}
 use Rattle.canonical_writer.specs.Names.{numbered_name}
 use Rattle.canonical_writer.specs.Determined.{HasPlainNames}
 use Rattle.canonical_writer.proofs.Placing.{place-found}

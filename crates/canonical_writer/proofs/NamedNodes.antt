@@ -1,10 +1,7 @@
 -- Which statements have names for their nodes.
 use Rattle.std.proofs.Common.{ℕ, ◌<◌, List, [], ◌∷◌, map, All, Option, Some, None, IsSome, IfSome, refl, subst, sym}
 use Rattle.std.proofs.lemmas.List.Elements.{All-head, All-tail, All-cons, All-nil}
-use Rattle.rdf_terms.specs.Lists.{Text, In}
-use Rattle.rdf_terms.specs.Terms.{Statement, IsValidStatement, IsValidTerm}
-use Rattle.rdf_terms.specs.Document.{statement}
-use Rattle.rdf_terms.specs.CanonicalForm.{issued_name, identifier_at}
+use Rattle.rdf_terms.proofs.Common.{Text, In, Statement, IsValidStatement, IsValidTerm, statement, issued_name, identifier_at}
 use Rattle.rdf_terms.specs.declared.term.Term.{Term}
 use Rattle.rdf_terms.specs.declared.term.Term.TheVariants.{Iri, Blank, Literal}
 use Rattle.rdf_terms.specs.declared.term.Quad.{Quad}

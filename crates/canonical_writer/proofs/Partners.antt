@@ -1,12 +1,9 @@
 -- The map of nodes that takes one list of all nodes to another, place by place.
 use Rattle.std.proofs.Common.{◌≡◌, ℕ, ◌<◌, ◌≤◌, List, Option, Some, None, map, length, get_or, refl, sym, ap, subst, ◌∙◌, arith}
 use Rattle.std.proofs.lemmas.List.{get_or-map, get_or_default, length-map, same_lists}
-use Rattle.rdf_terms.specs.Lists.{In}
-use Rattle.rdf_terms.specs.Isomorphism.{Relabelling}
-use Rattle.rdf_terms.specs.CanonicalForm.{place_of}
+use Rattle.rdf_terms.proofs.Common.{In, Relabelling, place_of, length-distinct_below, In-get_or}
 use Rattle.canonical_writer.specs.Determined.{ListsNodes}
-use Rattle.canonical_writer.proofs.Placing.{place-found, place-here, place-get_or, length-all_below, length-distinct_below}
-use Rattle.rdf_terms.proofs.MadeLists.{In-get_or}
+use Rattle.canonical_writer.proofs.Placing.{place-found, place-here, place-get_or, length-all_below}
 
 -- the number at the place in the other list; a number with no place stays
 abbrev at_place : List ℕ → Option ℕ → ℕ → ℕ
@@ -18,7 +15,7 @@ partner c d n = at_place d (place_of c n) n
 
 pub length-listed : (nodes : ℕ) (c : List ℕ) → ListsNodes nodes c → length c ≡ nodes
 length-listed nodes c l =
-    let le : length c ≤ nodes = length-distinct_below c nodes l.distinct (λ k h. (l.all (get_or c k 0)).0 (In-get_or c k 0 h)) in
+    let le : length c ≤ nodes = length-distinct_below c nodes l.distinct (λ n. (l.all n).0) in
     let ge : nodes ≤ length c = length-all_below c nodes (λ q h. (l.all q).1 h) in
     omega arith
 

@@ -1,5 +1,6 @@
 -- A text that is made of pieces, and their lengths.
-use Rattle.std.proofs.Common.{◌≡◌, ℕ, suc, ◌+◌, ◌-◌, ◌<◌, ◌≤◌, List, [], ◌∷◌, ◌++◌, length, map, sum, take, drop, get_or, refl, sym, ap, ◌∙◌, length-append, length-drop, drop-cons, add-one, arith, Result, Ok, Err, OnOk}
+use Rattle.std.proofs.Common.{◌≡◌, ℕ, suc, ◌+◌, ◌-◌, ◌<◌, ◌≤◌, List, [], ◌∷◌, ◌++◌, length, map, sum, take, drop, get_or, refl, sym, ap, ◌∙◌, length-append, length-drop, drop-cons, add-one, arith, Result, Ok, Err, OnOk, true, true≢false}
+use Rattle.std.specs.Result.{is_ok}
 use Rattle.std.proofs.Math.Seq.{take-append_seam, drop-append_seam}
 use Rattle.std.proofs.lemmas.List.{take-append-le, drop-append-le, take-append-drop, take_all, length-take-le}
 use Rattle.std.proofs.lemmas.List.Sums.{sum_by-cons, sum_by-drop_more}
@@ -61,7 +62,7 @@ module _ (rest : Text) (lengths : List ℕ) (i d : ℕ) (bound : i < length leng
       ap (pieces rest) (drop-cons lengths i d bound)
       ∙ (λ j. sym f j ∷ pieces (sym b j) (drop (sym (add-one i) j) lengths))
 
-  module _ (room : sum (drop i lengths) ≤ length rest) where
+  module _ (fits : sum (drop i lengths) ≤ length rest) where
     parts : sum (drop i lengths) ≡ first + sum (drop (i + 1) lengths)
     parts = sum_by-drop_more (λ k. k) lengths i d bound
 
@@ -79,17 +80,16 @@ pieces-more text line (n ∷ ns) e =
     rw (take-append-le n text line r.0, drop-append-le n text line r.0) (ap (λ ps. take n text ∷ ps) (pieces-more (drop n text) line ns r.1))
 
 -- a line was written behind the text, and its length is noted
-module _ (text line new : Text) (before after : ℕ) (written : new ≡ text ++ line) (started : before ≡ length text) (ended : after ≡ length new) where
-  length-line : after - before ≡ length line
-  length-line = omega (arith, ap length written, length-append text line)
+pub line_added : (text line new : Text) (before after : ℕ) (lengths more : List ℕ) → new ≡ text ++ line → before ≡ length text → after ≡ length new → sum lengths ≡ length text
+    → more ≡ lengths ++ (after - before) ∷ [] → pieces new more ≡ pieces text lengths ++ line ∷ []
+line_added text line new before after lengths more written started ended fits noted =
+    let length-line : after - before ≡ length line = omega (arith, ap length written, length-append text line) in
+    rw (noted, written, length-line) (pieces-more text line lengths fits)
 
-  pub line_added : (lengths more : List ℕ) (old : List Text) → sum lengths ≡ length text → pieces text lengths ≡ old → more ≡ lengths ++ (after - before) ∷ [] → pieces new more ≡ old ++ line ∷ []
-  line_added lengths more old fits is noted = rw (noted, written, length-line) (pieces-more text line lengths fits ∙ ap (λ ls. ls ++ line ∷ []) is)
-
--- two facts about one success
-pub both : {T E P Q R : Type 0} (r : Result T E) → (P → Q → R) → OnOk r P → OnOk r Q → OnOk r R
-both (Ok u) f p q = f p q
-both (Err e) f p q = tt
+-- what is told of a success
+pub told_ok : {T E P : Type 0} (r : Result T E) → is_ok r ≡ true → OnOk r P → P
+told_ok (Ok x) e p = p
+told_ok (Err x) e p = absurd (true≢false (sym e))
 
 -- a list of no or one text is sorted
 pub sorted_short : (xs : List Text) → length xs ≤ 1 → sorted xs ≡ xs

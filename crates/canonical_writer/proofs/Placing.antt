@@ -1,15 +1,11 @@
 -- Places in a list of distinct numbers.
-use Rattle.std.proofs.Common.{◌≡◌, ◌≢◌, ℕ, suc, ◌+◌, ◌<◌, ◌≤◌, ◌==◌, ◌||◌, ◌⊎◌, Bool, true, false, if◌then◌else◌, List, [], ◌∷◌, Option, Some, None, IsSome, length, get_or, set, refl, sym, ap, subst, ◌∙◌, inl, inr, arith, below_more, eq-eqb, true≢false}
-use Rattle.std.specs.List.{IsDistinct, AllByRecursion, list_any}
-use Rattle.std.proofs.lemmas.Bool.{eqb-true, eqb-false, ne_eqb}
+use Rattle.std.proofs.Common.{◌≡◌, ◌≢◌, ℕ, suc, ◌+◌, ◌<◌, ◌≤◌, ◌==◌, ◌||◌, ◌⊎◌, Bool, true, false, if◌then◌else◌, List, [], ◌∷◌, Option, Some, None, IsSome, length, get_or, set, refl, sym, ap, subst, ◌∙◌, inl, inr, arith, below_more, true≢false}
+use Rattle.std.specs.List.{list_any}
+use Rattle.std.proofs.lemmas.Bool.{eqb-true, eqb-false}
 use Rattle.std.proofs.lemmas.List.{get_or-set_other, get_or-set_same}
-use Rattle.std.proofs.lemmas.Map.Steps.{length-le_from_distinct_below, le-length_from_below}
-use Rattle.std.proofs.lemmas.Option.{slice_get-get_or, get_or_from_slice_get, slice_get_within}
-use Rattle.rdf_terms.specs.Lists.{In, AreDistinct}
-use Rattle.rdf_terms.specs.CanonicalForm.{place_of, after_first}
-use Rattle.rdf_terms.proofs.Membership.{one_place, place_in, present, In-at}
+use Rattle.std.proofs.lemmas.Map.Steps.{le-length_from_below}
+use Rattle.rdf_terms.proofs.Common.{In, AreDistinct, place_of, after_first, In-get_or, one_place_within}
 use Rattle.canonical_writer.specs.Places.{TellsPlaces}
-use Rattle.rdf_terms.proofs.MadeLists.{In-get_or, one_place_within}
 
 -- ---- the place of a number
 
@@ -21,7 +17,8 @@ pub place-found : (xs : List ℕ) (n k : ℕ) → place_of xs n ≡ Some k → (
 place-found [] n k e = cc
 place-found (x ∷ xs) n k e = by (x == n) refl (place_of xs n) refl (place-found xs n) e
   where
-    by : (b : Bool) → (x == n) ≡ b → (o : Option ℕ) → place_of xs n ≡ o → ((j : ℕ) → place_of xs n ≡ Some j → (j < length xs) × (get_or xs j 0 ≡ n)) → (if b then Some 0 else after_first o) ≡ Some k → (k < length (x ∷ xs)) × (get_or (x ∷ xs) k 0 ≡ n)
+    by : (b : Bool) → (x == n) ≡ b → (o : Option ℕ) → place_of xs n ≡ o → ((j : ℕ) → place_of xs n ≡ Some j → (j < length xs) × (get_or xs j 0 ≡ n)) → (if b then Some 0 else after_first o) ≡ Some k
+        → (k < length (x ∷ xs)) × (get_or (x ∷ xs) k 0 ≡ n)
     by true is o at rest e = let z : 0 ≡ k = cc in rw (← z) (omega arith, eqb-true x n is)
     by false is None at rest e = cc
     by false is (Some j) at rest e =
@@ -36,24 +33,6 @@ told_place list places n told there =
     let p = place-found list n s.0 s.1 in
     let q = told s.0 p.0 in
     (subst (λ m. m < length places) p.1 q.0, s.1 ∙ ap Some (sym (subst (λ m. get_or places m 0 ≡ s.0) p.1 q.1)))
-
--- ---- distinct numbers
-
-to_test : (xs : List ℕ) → AreDistinct xs → IsDistinct (λ x y. x == y) xs
-unfolding IsDistinct
-to_test [] d = tt
-to_test (x ∷ xs) d = (apart xs d.0, to_test xs d.1)
-  where
-    apart : (ys : List ℕ) → ¬ (In x ys) → AllByRecursion (λ y. (x == y) ≡ false) ys
-    apart [] h = tt
-    apart (y ∷ ys) h = (ne_eqb x y (λ e. h (inl e)), apart ys (λ i. h (inr i)))
-
--- distinct numbers below a bound are at most so many
-pub length-distinct_below : (xs : List ℕ) (n : ℕ) → AreDistinct xs → ((k : ℕ) → k < length xs → get_or xs k 0 < n) → length xs ≤ n
-length-distinct_below xs n d below = length-le_from_distinct_below xs n (to_test xs d)
-    (λ q h.
-    let there = place_in xs q (present (λ x y. x == y) (record { same = eqb-true; itself = λ x. eq-eqb x x refl }) q xs h) in
-    subst (λ m. m < n) (get_or_from_slice_get xs there.0 q 0 there.1) (below there.0 (slice_get_within xs there.0 q there.1)))
 
 -- ---- filling the table
 

@@ -7,9 +7,7 @@ use Rattle.std.proofs.lemmas.Bool.{or_parts}
 use Rattle.std.proofs.lemmas.Bool.Decides.{nat_tests}
 use Rattle.std.proofs.lemmas.List.Elements.{All-head, All-tail, All-cons, All-append, All-weaker, All-nil}
 use Rattle.std.proofs.lemmas.Slice.Eq.{bytes_eq-Decides}
-use Rattle.rdf_terms.specs.Lists.{Text}
-use Rattle.rdf_terms.specs.Terms.{IsAbsoluteIri, IsLanguageTag, IsSubtag, IsValidKind, IsValidTerm, is_excluded, behind_dashes}
-use Rattle.rdf_terms.specs.CanonicalForm.{Naming, canonical_term, canonical_suffix, escaped, xsd_string}
+use Rattle.rdf_terms.proofs.Common.{Text, IsAbsoluteIri, IsLanguageTag, IsSubtag, IsValidKind, IsValidTerm, is_excluded, behind_dashes, Naming, canonical_term, canonical_suffix, escaped, xsd_string}
 use Rattle.rdf_terms.specs.declared.term.Term.{Term}
 use Rattle.rdf_terms.specs.declared.term.Term.TheVariants.{Iri, Blank, Literal}
 use Rattle.rdf_terms.specs.declared.term.LiteralKind.{LiteralKind}

@@ -1,26 +1,16 @@
 -- A dataset is known by its canonical text, up to the numbers of its nodes.
-use Rattle.std.proofs.Common.{◌≡◌, ℕ, ◌<◌, ◌≤◌, Bool, true, false, ◌||◌, List, [], ◌∷◌, Option, Some, None, IfSome, All, map, length, get_or, refl, sym, ap, subst, ◌∙◌, arith, true≢false, inl, inr}
+use Rattle.std.proofs.Common.{◌≡◌, ℕ, ◌<◌, ◌≤◌, Bool, true, false, ◌||◌, List, Option, Some, None, IfSome, All, map, length, get_or, refl, sym, ap, subst, ◌∙◌, arith, true≢false}
 use Rattle.std.proofs.lemmas.Bool.{eqb-true}
-use Rattle.std.proofs.lemmas.List.Elements.{All-head, All-tail}
-use Rattle.rdf_terms.specs.Lists.{In, Permutes, permutes_trans, sorted}
-use Rattle.rdf_terms.specs.Terms.{Statement, IsValidStatement, IsValidTerm}
-use Rattle.rdf_terms.specs.Dataset.{Dataset, IsValid, is_node, is_named_by, mentions}
-use Rattle.rdf_terms.specs.Isomorphism.{relabel_term, relabel_graph_name, relabel_statement}
-use Rattle.rdf_terms.specs.CanonicalForm.{canonical_line, canonical_nquads, issued_names, identifier, identifier_at, name_or_nothing, place_of}
+use Rattle.rdf_terms.proofs.Common.{In, Permutes, permutes_trans, sorted, Statement, IsValidStatement, IsValidTerm, Dataset, IsValid, is_node, is_named_by, mentions, relabel_term, relabel_graph_name, relabel_statement, canonical_line, canonical_nquads, issued_names, identifier, identifier_at, name_or_nothing, place_of, In-map, from_In-map, identifier-injective, In-Permutes, Permutes-sym, Permutes-from_equal, sorted-permutes, each-from_All, All-from_each, In-get_or}
 use Rattle.rdf_terms.specs.declared.term.Term.{Term}
 use Rattle.rdf_terms.specs.declared.term.Term.TheVariants.{Iri, Blank, Literal}
 use Rattle.rdf_terms.specs.declared.term.Prefix.TheVariants.{Canonical}
-use Rattle.rdf_terms.proofs.Membership.{In-map, from_In-map}
-use Rattle.rdf_terms.proofs.Numerals.{identifier-injective}
-use Rattle.rdf_terms.proofs.Permutations.{In-Permutes, Permutes-sym, Permutes-from_equal}
-use Rattle.rdf_terms.proofs.SortedTexts.{sorted-permutes}
 use Rattle.canonical_writer.specs.Determined.{AgreeTerms, AgreeGraphNames, Agree, ListsNodes, CarriesLists}
 use Rattle.canonical_writer.proofs.Placing.{place-found, place-here, place-get_or}
 use Rattle.canonical_writer.proofs.NameTexts.{HasPlainNames-issued}
 use Rattle.canonical_writer.proofs.LineTexts.{IsLine, IsLine-canonical_line, same_line, same_lines}
 use Rattle.canonical_writer.proofs.Matching.{Permutes-matched}
 use Rattle.canonical_writer.proofs.Partners.{partner, partner-at, partners, map-partner, length-listed}
-use Rattle.rdf_terms.proofs.MadeLists.{each-from_All, All-from_each, In-get_or}
 
 bounded : (m n : ℕ) → (n < m → n < n) → m ≤ n
 bounded m n f = grind arith
@@ -153,7 +143,9 @@ module _ (D E : Dataset) (c d : List ℕ) (v : IsValid D) (w : IsValid E) (lc : 
       lists = map-partner D.nodes c d lc ld';
       carries = record {
         nodes = as_many;
-        statements = Permutes-matched (canonical_line (issued_names Canonical c)) (canonical_line (issued_names Canonical d)) (relabel_statement (partner c d)) D.statements E.statements same_moved lines_permute;
+        statements =
+            Permutes-matched (canonical_line (issued_names Canonical c)) (canonical_line (issued_names Canonical d))
+            (relabel_statement (partner c d)) D.statements E.statements same_moved lines_permute;
       };
     }
 

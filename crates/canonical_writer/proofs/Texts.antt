@@ -2,6 +2,7 @@
 use Rattle.std.proofs.Common.{◌≡◌, ℕ, ◌+◌, ◌<◌, ◌≤◌, List, [], ◌∷◌, ◌++◌, map, length, take, drop, get_or, min, refl, sym, ap, subst, ◌∙◌, append_assoc, append-nil, length-take, arith}
 use Rattle.std.specs.Io.{StartsWith}
 use Rattle.std.proofs.lemmas.List.{map_more, take-append-le, take-append-drop}
+use Rattle.std.proofs.lemmas.List.Folds.{concat-append}
 use Rattle.rdf_terms.specs.Lists.{Text, joined}
 
 -- ---- what a text begins with
@@ -22,14 +23,10 @@ starts_past a b r c h k = starts_through a (b ++ r) c (starts_append a b r h) k
 
 -- ---- one after the other
 
-pub joined-append : (xs ys : List Text) → joined (xs ++ ys) ≡ joined xs ++ joined ys
-joined-append [] ys = refl
-joined-append (x ∷ xs) ys = ap (λ t. x ++ t) (joined-append xs ys) ∙ sym (append_assoc x (joined xs) (joined ys))
-
 pub joined_more : {X : Type 0} (f : X → Text) (xs : List X) (i : ℕ) (d : X) (t : Text) → i < length xs → t ≡ joined (map f (take i xs)) → t ++ f (get_or xs i d) ≡ joined (map f (take (i + 1) xs))
 joined_more f xs i d t h e =
     ap (λ s. s ++ f (get_or xs i d)) e
-    ∙ sym (ap joined (map_more f xs i d h) ∙ (joined-append (map f (take i xs)) (f (get_or xs i d) ∷ []) ∙ ap (λ s. joined (map f (take i xs)) ++ s) (append-nil (f (get_or xs i d)))))
+    ∙ sym (ap joined (map_more f xs i d h) ∙ (concat-append (map f (take i xs)) (f (get_or xs i d) ∷ []) ∙ ap (λ s. joined (map f (take i xs)) ++ s) (append-nil (f (get_or xs i d)))))
 
 -- one more text behind what was there
 pub joined_behind : {X : Type 0} (f : X → Text) (xs : List X) (i : ℕ) (d : X) (before t new : Text) → i < length xs → t ≡ before ++ joined (map f (take i xs)) → new ≡ t ++ f (get_or xs i d)

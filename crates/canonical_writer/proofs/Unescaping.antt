@@ -5,8 +5,7 @@ use Rattle.std.proofs.lemmas.Bool.{eqb-true, eqb-false, ne_eqb}
 use Rattle.std.proofs.lemmas.Bool.Decides.{nat_tests}
 use Rattle.std.proofs.lemmas.List.Concat.{flat_map-cons}
 use Rattle.std.proofs.lemmas.List.Elements.{All-cons, All-append, All-nil}
-use Rattle.rdf_terms.specs.Lists.{Text}
-use Rattle.rdf_terms.specs.CanonicalForm.{escaped, hex_digit, is_written_by_number}
+use Rattle.rdf_terms.proofs.Common.{Text, escaped, hex_digit, is_written_by_number}
 use Rattle.canonical_writer.proofs.Splitting.{head_of, tail_of}
 
 -- ---- the three ways in which a byte is written
@@ -26,8 +25,8 @@ pick c x y false p q = q refl
 number-small : (c : ℕ) → is_written_by_number c ≡ true → c < 256
 number-small c h = grind (arith, nat_tests)
 
-plain-printable : (c : ℕ) → (c == 8) ≡ false → (c == 9) ≡ false → (c == 10) ≡ false → (c == 12) ≡ false → (c == 13) ≡ false → is_written_by_number c ≡ false → 32 ≤ c
-plain-printable c bs ht lf ff cr h = grind (arith, nat_tests)
+unescaped-printable : (c : ℕ) → (c == 8) ≡ false → (c == 9) ≡ false → (c == 10) ≡ false → (c == 12) ≡ false → (c == 13) ≡ false → is_written_by_number c ≡ false → 32 ≤ c
+unescaped-printable c bs ht lf ff cr h = grind (arith, nat_tests)
 
 pub written : (c : ℕ) → Written c (escaped c)
 unfolding escaped
@@ -40,7 +39,7 @@ written c =
     (λ cr. pick c _ _ (c == 34) (λ e. by_letter 34 refl (omega arith) (sym (eqb-true c 34 e)))
     (λ q. pick c _ _ (c == 92) (λ e. by_letter 92 refl (omega arith) (sym (eqb-true c 92 e)))
     (λ b. pick c _ _ (is_written_by_number c) (λ e. by_number (number-small c e))
-    (λ n. as_it_stands (eqb-false c 92 b) (eqb-false c 34 q) (plain-printable c bs ht lf ff cr n)))))))))
+    (λ n. as_it_stands (eqb-false c 92 b) (eqb-false c 34 q) (unescaped-printable c bs ht lf ff cr n)))))))))
 
 -- ---- reading one byte back
 
@@ -126,7 +125,8 @@ printable c w (by_number k) =
     let high : Text = hex_digit (c / 16) ∷ low in
     let lows : All (λ c. 32 ≤ c) low = printable_byte (hex_digit (c % 16)) (hex-printable (c % 16)) [] (All-nil _) in
     let highs : All (λ c. 32 ≤ c) high = printable_byte (hex_digit (c / 16)) (hex-printable (c / 16)) low lows in
-    printable_byte 92 (omega arith) (117 ∷ 48 ∷ 48 ∷ high) (printable_byte 117 (omega arith) (48 ∷ 48 ∷ high) (printable_byte 48 (omega arith) (48 ∷ high) (printable_byte 48 (omega arith) high highs)))
+    printable_byte 92 (omega arith) (117 ∷ 48 ∷ 48 ∷ high) (printable_byte 117 (omega arith) (48 ∷ 48 ∷ high)
+    (printable_byte 48 (omega arith) (48 ∷ high) (printable_byte 48 (omega arith) high highs)))
 printable c w (as_it_stands b q n) = printable_byte c n [] (All-nil _)
 
 pub string-printable : (xs : Text) → All (λ c. 32 ≤ c) (flat_map escaped xs)

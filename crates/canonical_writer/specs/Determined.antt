@@ -1,11 +1,7 @@
 -- What a canonical line tells of its quad, and a canonical text of its dataset.
 use Rattle.std.specs.Prelude.{◌≡◌, ℕ, ◌<◌, ◌↔◌, List, map, Option, Some, None, All}
 use Rattle.std.specs.Char.{is_ascii_alphanumeric}
-use Rattle.rdf_terms.specs.Lists.{In, AreDistinct}
-use Rattle.rdf_terms.specs.Terms.{Statement}
-use Rattle.rdf_terms.specs.Dataset.{Dataset}
-use Rattle.rdf_terms.specs.Isomorphism.{Relabelling, Carries}
-use Rattle.rdf_terms.specs.CanonicalForm.{Naming}
+use Rattle.rdf_terms.specs.Vocabulary.{In, AreDistinct, Statement, Dataset, Relabelling, Carries, Naming}
 use Rattle.rdf_terms.specs.declared.term.Term.{Term}
 use Rattle.rdf_terms.specs.declared.term.Term.TheVariants.{Iri, Blank, Literal}
 use Rattle.std.specs.Prelude.{true}

@@ -4,4 +4,4 @@ pub mod Pieces
 pub mod Places
 pub mod Determined
 pub mod Runs
-pub mod KeyFronts
+pub mod KeyNumbers

@@ -1,9 +1,6 @@
 -- Names of blank nodes as values of code tell them, and which quads can be written with them.
 use Rattle.std.specs.Prelude.{ℕ, ◌==◌, if◌then◌else◌, ◌++◌, Option, Some, IsSome, IfSome, codes}
-use Rattle.rdf_terms.specs.Lists.{Text}
-use Rattle.rdf_terms.specs.Numeral.{numeral}
-use Rattle.rdf_terms.specs.Terms.{Statement}
-use Rattle.rdf_terms.specs.CanonicalForm.{Naming, name_or_nothing}
+use Rattle.rdf_terms.specs.Vocabulary.{Text, numeral, Statement, Naming, name_or_nothing}
 use Rattle.rdf_terms.specs.declared.term.Term.{Term}
 use Rattle.rdf_terms.specs.declared.term.Term.TheVariants.{Iri, Blank, Literal}
 

@@ -9,4 +9,5 @@ pub record NamedList : Type 0 where
 
 -- the table has an entry for each number of the list, and this entry is its place
 abbrev pub TellsPlaces : List ℕ → List ℕ → Type 0
-TellsPlaces list places = (k : ℕ) → k < length list → (slice_index list k < length places) × (slice_index places (slice_index list k) ≡ k)
+TellsPlaces list places =
+    (k : ℕ) → k < length list → (slice_index list k < length places) × (slice_index places (slice_index list k) ≡ k)

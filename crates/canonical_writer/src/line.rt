@@ -1,6 +1,6 @@
 //! The canonical line of a quad.
 
-ghost use Rattle.std.specs.Prelude.{◌≡◌, ◌<◌, ◌++◌, length, OnOk, OnErr, IfSome, codes};
+ghost use Rattle.std.specs.Prelude.{◌≡◌, ◌<◌, ◌≤◌, ◌++◌, length, take, OnOk, OnErr, IsErr, IfSome, codes};
 ghost use Rattle.std.specs.Io.{StartsWith};
 ghost use Rattle.std.specs.List.{flat_map};
 ghost use Rattle.std.specs.Str.{bytes_eq};
@@ -10,6 +10,7 @@ ghost use Rattle.canonical_writer.specs.Names.{naming_of, HasNames, IsNamed};
 ghost use Rattle.canonical_writer.specs.Runs.{line_start, line_rest};
 
 use crate::escape::push_escaped;
+use crate::named_terms::NamedTerms;
 use crate::names::Names;
 use rdf_terms::{Literal, LiteralKind, NoMemory, Quad, Term, TermTable, TermText, xsd};
 
@@ -26,142 +27,105 @@ pub fn push_line<N: Names>(
     ensures err { OnErr result (out.new.items ≡ out.old.items) }
 {
     let before = out.len();
-    let result = append_line(out, terms, quad, names);
-    if result.is_err() {
-        out.truncate(before);
+    let written = append_line(out, &NamedTerms { terms, names }, quad);
+    if written.is_err() {
+        return cut_off(out, before);
     }
-    result
+    Ok(())
 }
 
-fn append_line<N: Names>(
+// Cuts off what was written from this place on, since there was no memory for all of it.
+pub(crate) fn cut_off(text: &mut Vec<u8>, before: usize) -> Result<(), NoMemory>
+    requires { before ≤ length text.old.items }
+    ensures err { IsErr result }
+    ensures cut { text.new.items ≡ take before text.old.items }
+{
+    text.truncate(before);
+    Err(NoMemory)
+}
+
+// The same as `push_line`, but after an `Err` a part of the line may stand there.
+pub(crate) fn append_line<N: Names>(
     out: &mut Vec<u8>,
-    terms: &TermTable,
+    named: &NamedTerms<'_, N>,
     quad: Quad,
-    names: &N,
 ) -> Result<(), NoMemory>
-    requires in_range { IsInRange terms.now quad }
-    requires named { HasNames (N.name names.now) (statement terms.now quad) }
-    ensures ok { OnOk result (out.new.items ≡ out.old.items ++ canonical_line (naming_of (N.name names.now)) (statement terms.now quad)) }
+    requires in_range { IsInRange named.now.terms.now quad }
+    requires named { HasNames (N.name named.now.names.now) (statement named.now.terms.now quad) }
+    ensures ok { OnOk result (out.new.items ≡ out.old.items ++ canonical_line (naming_of (N.name named.now.names.now)) (statement named.now.terms.now quad)) }
     ensures front { StartsWith out.new.items out.old.items }
 {
-    push_place(out, terms, quad.s, names)?;
-    push_rest(out, terms, quad, names)
+    push_place(out, named, quad.s)?;
+    push_rest(out, named, quad)
 }
 
-// Appends the canonical line of a quad, whose start is at hand: it is copied and not written again.
-// After an `Err` the bytes are as before.
-pub(crate) fn push_behind<N: Names>(
+// The same where the start of the line is at hand: it is copied and not written again.
+pub(crate) fn append_behind<N: Names>(
     out: &mut Vec<u8>,
     start: &[u8],
-    terms: &TermTable,
+    named: &NamedTerms<'_, N>,
     quad: Quad,
-    names: &N,
 ) -> Result<(), NoMemory>
-    requires start { start.now ≡ line_start (naming_of (N.name names.now)) (term_at terms.now quad.s) }
-    requires in_range { IsInRange terms.now quad }
-    requires named { HasNames (N.name names.now) (statement terms.now quad) }
-    ensures ok { OnOk result (out.new.items ≡ out.old.items ++ canonical_line (naming_of (N.name names.now)) (statement terms.now quad)) }
-    ensures err { OnErr result (out.new.items ≡ out.old.items) }
-{
-    let before = out.len();
-    let result = append_behind(out, start, terms, quad, names);
-    if result.is_err() {
-        out.truncate(before);
-    }
-    result
-}
-
-fn append_behind<N: Names>(
-    out: &mut Vec<u8>,
-    start: &[u8],
-    terms: &TermTable,
-    quad: Quad,
-    names: &N,
-) -> Result<(), NoMemory>
-    requires start { start.now ≡ line_start (naming_of (N.name names.now)) (term_at terms.now quad.s) }
-    requires in_range { IsInRange terms.now quad }
-    requires named { HasNames (N.name names.now) (statement terms.now quad) }
-    ensures ok { OnOk result (out.new.items ≡ out.old.items ++ canonical_line (naming_of (N.name names.now)) (statement terms.now quad)) }
+    requires start { start.now ≡ line_start (naming_of (N.name named.now.names.now)) (term_at named.now.terms.now quad.s) }
+    requires in_range { IsInRange named.now.terms.now quad }
+    requires named { HasNames (N.name named.now.names.now) (statement named.now.terms.now quad) }
+    ensures ok { OnOk result (out.new.items ≡ out.old.items ++ canonical_line (naming_of (N.name named.now.names.now)) (statement named.now.terms.now quad)) }
     ensures front { StartsWith out.new.items out.old.items }
 {
     out.extend_from_slice(start)?;
-    push_rest(out, terms, quad, names)
+    push_rest(out, named, quad)
 }
 
 // Appends what stands behind the subject in the line of a quad.
 fn push_rest<N: Names>(
     out: &mut Vec<u8>,
-    terms: &TermTable,
+    named: &NamedTerms<'_, N>,
     quad: Quad,
-    names: &N,
 ) -> Result<(), NoMemory>
-    requires in_range { IsInRange terms.now quad }
-    requires named { HasNames (N.name names.now) (statement terms.now quad) }
-    ensures ok { OnOk result (out.new.items ≡ out.old.items ++ line_rest (naming_of (N.name names.now)) (statement terms.now quad)) }
+    requires in_range { IsInRange named.now.terms.now quad }
+    requires named { HasNames (N.name named.now.names.now) (statement named.now.terms.now quad) }
+    ensures ok { OnOk result (out.new.items ≡ out.old.items ++ line_rest (naming_of (N.name named.now.names.now)) (statement named.now.terms.now quad)) }
     ensures front { StartsWith out.new.items out.old.items }
 {
-    push_place(out, terms, quad.p, names)?;
-    push_place(out, terms, quad.o, names)?;
-    push_graph_name(out, terms, quad.g, names)?;
+    push_place(out, named, quad.p)?;
+    push_place(out, named, quad.o)?;
+    push_graph_name(out, named, quad.g)?;
     out.extend_from_slice(b".\n")?;
     Ok(())
 }
 
-// Appends the start of the lines of a subject: the subject, and the space behind it. After an `Err`
-// the bytes are as before.
-pub(crate) fn push_start<N: Names>(
-    out: &mut Vec<u8>,
-    terms: &TermTable,
-    subject: u32,
-    names: &N,
-) -> Result<(), NoMemory>
-    requires in_range { subject < length terms.now }
-    requires named { IsNamed (N.name names.now) (term_at terms.now subject) }
-    ensures ok { OnOk result (out.new.items ≡ out.old.items ++ line_start (naming_of (N.name names.now)) (term_at terms.now subject)) }
-    ensures err { OnErr result (out.new.items ≡ out.old.items) }
-{
-    let before = out.len();
-    let result = push_place(out, terms, subject, names);
-    if result.is_err() {
-        out.truncate(before);
-    }
-    result
-}
-
 fn push_graph_name<N: Names>(
     out: &mut Vec<u8>,
-    terms: &TermTable,
+    named: &NamedTerms<'_, N>,
     number: Option<u32>,
-    names: &N,
 ) -> Result<(), NoMemory>
-    requires in_range { IfSome number (λ g. g < length terms.now) }
-    requires named { IfSome (graph_name_at terms.now number) (IsNamed (N.name names.now)) }
-    ensures ok { OnOk result (out.new.items ≡ out.old.items ++ canonical_graph_name (naming_of (N.name names.now)) (graph_name_at terms.now number)) }
+    requires in_range { IfSome number (λ g. g < length named.now.terms.now) }
+    requires named { IfSome (graph_name_at named.now.terms.now number) (IsNamed (N.name named.now.names.now)) }
+    ensures ok { OnOk result (out.new.items ≡ out.old.items ++ canonical_graph_name (naming_of (N.name named.now.names.now)) (graph_name_at named.now.terms.now number)) }
     ensures front { StartsWith out.new.items out.old.items }
 {
     match number {
-        Some(graph_name) => push_place(out, terms, graph_name, names),
+        Some(graph_name) => push_place(out, named, graph_name),
         None => Ok(()),
     }
 }
 
-// Appends the term with this number, and a space.
+// Appends the term with this number, and a space: as the subject, it is the start of a line.
 #[inline]
-fn push_place<N: Names>(
+pub(crate) fn push_place<N: Names>(
     out: &mut Vec<u8>,
-    terms: &TermTable,
+    named: &NamedTerms<'_, N>,
     number: u32,
-    names: &N,
 ) -> Result<(), NoMemory>
-    requires in_range { number < length terms.now }
-    requires named { IsNamed (N.name names.now) (term_at terms.now number) }
-    ensures ok { OnOk result (out.new.items ≡ out.old.items ++ (canonical_term (naming_of (N.name names.now)) (term_at terms.now number) ++ codes " ")) }
+    requires in_range { number < length named.now.terms.now }
+    requires named { IsNamed (N.name named.now.names.now) (term_at named.now.terms.now number) }
+    ensures ok { OnOk result (out.new.items ≡ out.old.items ++ (canonical_term (naming_of (N.name named.now.names.now)) (term_at named.now.terms.now number) ++ codes " ")) }
     ensures front { StartsWith out.new.items out.old.items }
 {
-    let Some(term) = terms.get(number) else {
+    let Some(term) = named.terms.get(number) else {
         unreachable!()
     };
-    push_term(out, term, names)?;
+    push_term(out, term, named.names)?;
     out.push(b' ')?;
     Ok(())
 }
@@ -223,7 +187,7 @@ fn push_suffix(out: &mut Vec<u8>, kind: &LiteralKind) -> Result<(), NoMemory>
 }
 
 #[inline]
-fn is_string_type(iri: &TermText) -> bool
+pub(crate) fn is_string_type(iri: &TermText) -> bool
     ensures { result ≡ bytes_eq iri.now xsd_string }
 {
     iri.as_str() == xsd::STRING

@@ -3,12 +3,13 @@
 ghost use Rattle.std.specs.Prelude.{◌≡◌, ◌<◌, ◌≤◌, ◌-◌, ◌++◌, [], ◌∷◌, length, map, sum, take, IfOk, OnOk, OnErr, IsTrue, ◌↔◌};
 ghost use Rattle.rdf_terms.specs.CanonicalForm.{canonical_line};
 ghost use Rattle.rdf_terms.specs.Document.{statement, term_at, IsInRange};
-ghost use Rattle.rdf_terms.specs.Lists.{joined, sorted};
+ghost use Rattle.rdf_terms.specs.Lists.{Text, joined, sorted};
 ghost use Rattle.canonical_writer.specs.Names.{naming_of, HasNames, IsNamed};
 ghost use Rattle.canonical_writer.specs.Pieces.{pieces};
 ghost use Rattle.canonical_writer.specs.Runs.{line_start};
 
-use crate::line::{push_behind, push_line, push_start};
+use crate::line::{append_behind, append_line, cut_off, push_place};
+use crate::named_terms::NamedTerms;
 use crate::names::Names;
 use rdf_terms::{NoMemory, Quad, TermTable};
 use std::alloc::Global;
@@ -41,6 +42,15 @@ impl Lines {
             text: Vec::new(alloc),
             lengths: Vec::new(alloc),
         }
+    }
+
+    // Makes room for so many more lines, and so many bytes of them. More may come.
+    pub(crate) fn reserve(&mut self, lines: usize, bytes: usize) -> Result<(), NoMemory>
+        ensures { self.new ≡ self.old }
+    {
+        self.lengths.reserve(lines)?;
+        self.text.reserve(bytes)?;
+        Ok(())
     }
 
     /// How many lines there are.
@@ -91,42 +101,40 @@ impl Lines {
         ensures err { OnErr result (self.new ≡ self.old) }
     {
         let before = self.text.len();
-        push_line(&mut self.text, terms, quad, names)?;
-        note_length(&mut self.text, &mut self.lengths, before)
+        let written = append_line(&mut self.text, &NamedTerms { terms, names }, quad);
+        end_line(&mut self.text, &mut self.lengths, before, written)
     }
 
     // The same as `push`, of a line whose start is at hand.
     pub(crate) fn push_behind<N: Names>(
         &mut self,
         start: &[u8],
-        terms: &TermTable,
+        named: &NamedTerms<'_, N>,
         quad: Quad,
-        names: &N,
     ) -> Result<(), NoMemory>
-        requires start { start.now ≡ line_start (naming_of (N.name names.now)) (term_at terms.now quad.s) }
-        requires in_range { IsInRange terms.now quad }
-        requires named { HasNames (N.name names.now) (statement terms.now quad) }
-        ensures { OnOk result (self.new ≡ self.old ++ canonical_line (naming_of (N.name names.now)) (statement terms.now quad) ∷ []) }
+        requires start { start.now ≡ line_start (naming_of (N.name named.now.names.now)) (term_at named.now.terms.now quad.s) }
+        requires in_range { IsInRange named.now.terms.now quad }
+        requires named { HasNames (N.name named.now.names.now) (statement named.now.terms.now quad) }
+        ensures { OnOk result (self.new ≡ self.old ++ canonical_line (naming_of (N.name named.now.names.now)) (statement named.now.terms.now quad) ∷ []) }
     {
         let before = self.text.len();
-        push_behind(&mut self.text, start, terms, quad, names)?;
-        note_length(&mut self.text, &mut self.lengths, before)
+        let written = append_behind(&mut self.text, start, named, quad);
+        end_line(&mut self.text, &mut self.lengths, before, written)
     }
 
     // Adds the start of a line alone: a subject, and the space behind it.
     pub(crate) fn push_start<N: Names>(
         &mut self,
-        terms: &TermTable,
+        named: &NamedTerms<'_, N>,
         subject: u32,
-        names: &N,
     ) -> Result<(), NoMemory>
-        requires in_range { subject < length terms.now }
-        requires named { IsNamed (N.name names.now) (term_at terms.now subject) }
-        ensures { OnOk result (self.new ≡ self.old ++ line_start (naming_of (N.name names.now)) (term_at terms.now subject) ∷ []) }
+        requires in_range { subject < length named.now.terms.now }
+        requires named { IsNamed (N.name named.now.names.now) (term_at named.now.terms.now subject) }
+        ensures { OnOk result (self.new ≡ self.old ++ line_start (naming_of (N.name named.now.names.now)) (term_at named.now.terms.now subject) ∷ []) }
     {
         let before = self.text.len();
-        push_start(&mut self.text, terms, subject, names)?;
-        note_length(&mut self.text, &mut self.lengths, before)
+        let written = push_place(&mut self.text, named, subject);
+        end_line(&mut self.text, &mut self.lengths, before, written)
     }
 
     // The lines in the order in which they came.
@@ -159,23 +167,25 @@ impl Lines {
     }
 }
 
-// Notes how long the text from this place on is. Where there is no memory for that, the text is cut
-// off again.
+// Ends the line that was written behind the text from this place on. Where it was not written whole, or there is
+// no memory for its length, the text is cut off again.
 #[inline]
-fn note_length(text: &mut Vec<u8>, lengths: &mut Vec<usize>, before: usize) -> Result<(), NoMemory>
+fn end_line(
+    text: &mut Vec<u8>,
+    lengths: &mut Vec<usize>,
+    before: usize,
+    written: Result<(), NoMemory>,
+) -> Result<(), NoMemory>
     requires { before ≤ length text.old.items }
-    ensures noted { OnOk result (lengths.new.items ≡ lengths.old.items ++ (length text.old.items - before) ∷ []) }
-    ensures kept { OnOk result (text.new.items ≡ text.old.items) }
-    ensures not_noted { OnErr result (lengths.new.items ≡ lengths.old.items) }
+    ensures added { (old line : Text) → OnOk written (text.old.items ≡ old ++ line) → before ≡ length old → sum lengths.old.items ≡ length old → OnOk result (pieces text.new.items lengths.new.items ≡ pieces old lengths.old.items ++ line ∷ []) }
+    ensures fit { sum lengths.old.items ≡ before → sum lengths.new.items ≡ length text.new.items }
     ensures cut_off { OnErr result (text.new.items ≡ take before text.old.items) }
+    ensures no_length { OnErr result (lengths.new.items ≡ lengths.old.items) }
 {
-    match lengths.push(text.len() - before) {
-        Ok(()) => Ok(()),
-        Err(_) => {
-            text.truncate(before);
-            Err(NoMemory)
-        }
+    if written.is_ok() && lengths.push(text.len() - before).is_ok() {
+        return Ok(());
     }
+    cut_off(text, before)
 }
 
 // Cuts a text into pieces of these lengths, which lie one after the other from its start.

@@ -1,7 +1,6 @@
 //! What names blank nodes.
 
 ghost use Rattle.std.specs.Prelude.{◌≡◌, ◌++◌, ℕ, List, Option, OnOk, OnErr, IsSome, codes};
-ghost use Rattle.std.specs.Io.{StartsWith};
 ghost use Rattle.rdf_terms.specs.CanonicalForm.{name_or_nothing};
 ghost use Rattle.rdf_terms.specs.Numeral.{numeral};
 ghost use Rattle.canonical_writer.specs.Names.{degree_name, numbered_name};
@@ -49,26 +48,15 @@ impl Names for NumberNames {
     }
 }
 
-fn append_numbered(out: &mut Vec<u8>, prefix: &[u8], number: u32) -> Result<(), NoMemory>
-    ensures ok { OnOk result (out.new.items ≡ out.old.items ++ (prefix.now ++ numeral number)) }
-    ensures front { StartsWith out.new.items out.old.items }
-{
-    let mut buffer = Buffer::new();
-    let digits = buffer.format(number).as_bytes();
-    out.extend_from_slice(prefix)?;
-    out.extend_from_slice(digits)?;
-    Ok(())
-}
-
 /// Appends a prefix and the numeral of a number. After an `Err` the bytes are as before.
 pub fn push_numbered(out: &mut Vec<u8>, prefix: &[u8], number: u32) -> Result<(), NoMemory>
     ensures ok { OnOk result (out.new.items ≡ out.old.items ++ (prefix.now ++ numeral number)) }
     ensures err { OnErr result (out.new.items ≡ out.old.items) }
 {
-    let before = out.len();
-    let result = append_numbered(out, prefix, number);
-    if result.is_err() {
-        out.truncate(before);
-    }
-    result
+    let mut buffer = Buffer::new();
+    let digits = buffer.format(number).as_bytes();
+    out.reserve(prefix.len() + digits.len())?;
+    out.extend_from_slice(prefix).unwrap();
+    out.extend_from_slice(digits).unwrap();
+    Ok(())
 }

@@ -9,17 +9,21 @@ ghost use Rattle.canonical_writer.specs.Pieces.{pieces};
 ghost use Rattle.canonical_writer.specs.Runs.{IsRun, KeysAscend};
 
 use crate::lines::Lines;
+use crate::named_terms::NamedTerms;
 use crate::names::Names;
 use crate::run_order::sort_by_key;
-use rdf_terms::{NoMemory, Quad, TermTable};
+use rdf_terms::{NoMemory, Quad};
 use std::alloc::Global;
 
-// Quads of one subject, and the text that their lines begin with: the subject and a space. A front of
-// this key stands beside it, so that two runs compare without a look at their keys, which lie far
-// apart in memory. It is noted when the runs are put in order, and 0 before.
+// How many bytes of room are asked for each key before the keys are written. Where they take more, the buffer grows.
+const KEY_ROOM: usize = 32;
+
+// Quads of one subject, and the text that their lines begin with: the subject and a space. A number of
+// eight bytes of this key stands beside it, so that two runs compare without a look at their keys, which
+// lie far apart in memory. It is set when the runs are put in order, and 0 before.
 #[derive(Clone, Copy, Debug)]
 pub(crate) struct Run<'a> {
-    pub(crate) front: u64,
+    pub(crate) number: u64,
     pub(crate) key: &'a [u8],
     pub(crate) quads: &'a [Quad],
 }
@@ -35,22 +39,24 @@ fn subject_len(quads: &[Quad], subject: u32) -> usize
 // stretch.
 pub(crate) fn cut_at_subjects<'a, N: Names>(
     alloc: Global,
-    terms: &TermTable,
+    named: &NamedTerms<'_, N>,
     quads: &'a [Quad],
-    names: &N,
     keys: &mut Lines,
 ) -> Result<Vec<&'a [Quad]>, NoMemory>
     requires none { keys.old ≡ [] }
-    requires in_range { All (IsInRange terms.now) quads.now }
-    requires named { All (λ q. HasNames (N.name names.now) (statement terms.now q)) quads.now }
+    requires in_range { All (IsInRange named.now.terms.now) quads.now }
+    requires named { All (λ q. HasNames (N.name named.now.names.now) (statement named.now.terms.now q)) quads.now }
     ensures whole { IfOk result (λ v. flat_map (λ p. p.now) v.items ≡ quads.now) }
-    ensures runs { IfOk result (λ v. AllZip (λ k p. IsRun (N.name names.now) terms.now k p.now) keys.new v.items) }
+    ensures runs { IfOk result (λ v. AllZip (λ k p. IsRun (N.name named.now.names.now) named.now.terms.now k p.now) keys.new v.items) }
 {
-    let mut stretches = Vec::new(alloc);
+    // In ascending quads each subject has one stretch.
+    let subjects = quads.len().min(named.terms.len() as usize);
+    keys.reserve(subjects, subjects.saturating_mul(KEY_ROOM))?;
+    let mut stretches = Vec::with_capacity(alloc, subjects)?;
     let mut rest = quads;
     while let Some(first) = rest.first() {
         let (stretch, behind) = rest.split_at(subject_len(rest, first.s));
-        keys.push_start(terms, first.s, names)?;
+        keys.push_start(named, first.s)?;
         stretches.push(stretch)?;
         rest = behind;
     }
@@ -73,7 +79,7 @@ fn with_keys<'a>(
     for (place, length) in lengths.iter().enumerate() {
         let (key, behind) = rest.split_at(*length);
         runs.push(Run {
-            front: 0,
+            number: 0,
             key,
             quads: stretches[place],
         })?;

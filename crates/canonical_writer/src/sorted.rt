@@ -11,7 +11,9 @@ ghost use Rattle.canonical_writer.specs.Names.{naming_of, HasNames};
 ghost use Rattle.canonical_writer.specs.Runs.{lines_of, IsRun, KeysAscend};
 
 use crate::lines::Lines;
+use crate::named_terms::NamedTerms;
 use crate::names::Names;
+use crate::room::make_room;
 use crate::runs::{Run, cut_at_subjects, sorted_runs};
 use rdf_terms::{Bytes, NoMemory, Quad, TermTable};
 use std::alloc::Global;
@@ -32,12 +34,13 @@ pub fn write_sorted<N: Names>(
     requires named { All (λ q. HasNames (N.name names.now) (statement terms.now q)) quads.now }
     ensures { IfOk result (λ text. text ≡ joined (sorted (map (canonical_line (naming_of (N.name names.now))) (map (statement terms.now) quads.now)))) }
 {
+    let named = NamedTerms { terms, names };
     let mut keys = Lines::new(alloc);
-    let stretches = cut_at_subjects(alloc, terms, quads, names, &mut keys)?;
+    let stretches = cut_at_subjects(alloc, &named, quads, &mut keys)?;
     let runs = sorted_runs(alloc, &keys, stretches.as_slice())?;
     drop(stretches);
     let room = quads.len().saturating_mul(LINE_ROOM);
-    write_runs(alloc, room, terms, runs.as_slice(), names)
+    write_runs(alloc, room, &named, runs.as_slice())
 }
 
 // The lines of the runs in byte order, one after the other, in one buffer with room for so many
@@ -46,24 +49,24 @@ pub fn write_sorted<N: Names>(
 fn write_runs<N: Names>(
     alloc: Global,
     room: usize,
-    terms: &TermTable,
+    named: &NamedTerms<'_, N>,
     runs: &[Run<'_>],
-    names: &N,
 ) -> Result<Bytes, NoMemory>
-    requires runs { All (λ r. IsRun (N.name names.now) terms.now r.key.now r.quads.now) runs.now }
+    requires runs { All (λ r. IsRun (N.name named.now.names.now) named.now.terms.now r.key.now r.quads.now) runs.now }
     requires sorted { KeysAscend (λ r. r.key.now) runs.now }
-    ensures { IfOk result (λ text. text ≡ joined (sorted (flat_map (λ r. lines_of (naming_of (N.name names.now)) terms.now r.quads.now) runs.now))) }
+    ensures { IfOk result (λ text. text ≡ joined (sorted (flat_map (λ r. lines_of (naming_of (N.name named.now.names.now)) named.now.terms.now r.quads.now) runs.now))) }
 {
     let mut text = Vec::with_capacity(alloc, room)?;
     let mut group = Lines::new(alloc);
     let mut front = first_key(runs);
-    for run in runs {
+    for (place, run) in runs.iter().enumerate() {
+        make_room(&mut text, named.terms, runs, place)?;
         if !begins_with(run.key, front) {
             group.append_sorted(alloc, &mut text)?;
             group.clear();
             front = run.key;
         }
-        push_lines(&mut group, run.key, terms, run.quads, names)?;
+        push_lines(&mut group, run.key, named, run.quads)?;
     }
     group.append_sorted(alloc, &mut text)?;
     Ok(Bytes::new(text))
@@ -90,15 +93,14 @@ fn begins_with(text: &[u8], front: &[u8]) -> bool
 fn push_lines<N: Names>(
     lines: &mut Lines,
     key: &[u8],
-    terms: &TermTable,
+    named: &NamedTerms<'_, N>,
     quads: &[Quad],
-    names: &N,
 ) -> Result<(), NoMemory>
-    requires { IsRun (N.name names.now) terms.now key.now quads.now }
-    ensures { OnOk result (lines.new ≡ lines.old ++ lines_of (naming_of (N.name names.now)) terms.now quads.now) }
+    requires { IsRun (N.name named.now.names.now) named.now.terms.now key.now quads.now }
+    ensures { OnOk result (lines.new ≡ lines.old ++ lines_of (naming_of (N.name named.now.names.now)) named.now.terms.now quads.now) }
 {
     for quad in quads {
-        lines.push_behind(key, terms, *quad, names)?;
+        lines.push_behind(key, named, *quad)?;
     }
     Ok(())
 }

@@ -3,9 +3,7 @@ use Rattle.std.proofs.Common.{◌≡◌, ℕ, ◌+◌, ◌<◌, List, [], ◌∷
 use Rattle.std.proofs.lemmas.List.{map-append}
 use Rattle.std.proofs.lemmas.Option.{slice_get-get_or, slice_get-map}
 use Rattle.std.specs.Option.{option_map}
-use Rattle.rdf_terms.specs.Lists.{Text, numbers_below}
-use Rattle.rdf_terms.specs.Document.{Document, IsInRange, statement, statements}
-use Rattle.rdf_terms.specs.CanonicalForm.{canonical_line}
+use Rattle.rdf_terms.proofs.Common.{Text, numbers_below, Document, IsInRange, statement, statements, canonical_line}
 use Rattle.rdf_terms.specs.declared.term.Term.{Term}
 use Rattle.rdf_terms.specs.declared.term.Quad.{Quad}
 use Rattle.dataset_index.specs.Mentions.{places_of}

@@ -1,10 +1,7 @@
--- The first-degree hashes of a document's nodes (RDF Dataset Canonicalization, section 4.6), and the lines that are hashed.
+-- The first-degree hashes of a document's nodes (RDF Dataset Canonicalization, section 4.6), and the lines that are
+-- hashed.
 use Rattle.std.specs.Prelude.{ℕ, List, [], map, length, Option, Some, None, slice_get}
-use Rattle.rdf_terms.specs.Lists.{Text, numbers_below}
-use Rattle.rdf_terms.specs.Terms.{Statement}
-use Rattle.rdf_terms.specs.Dataset.{statements_of}
-use Rattle.rdf_terms.specs.Document.{Document, dataset, statements}
-use Rattle.rdf_terms.specs.CanonicalForm.{canonical_line}
+use Rattle.rdf_terms.specs.Vocabulary.{Text, numbers_below, Statement, statements_of, Document, dataset, statements, canonical_line}
 use Rattle.canon_model.specs.Hashing.{Hashing}
 use Rattle.canon_model.specs.FirstDegree.{first_degree_names, hash_first_degree_quads}
 

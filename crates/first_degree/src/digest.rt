@@ -10,7 +10,7 @@ use profile_hash::{hash_of_pieces, hash_of_text};
 use rdf_terms::NoMemory;
 use std::alloc::Global;
 
-/// The hash of the lines in byte order, one after the other.
+// The hash of the lines in byte order, one after the other.
 #[tactic(auto, using(canonical_writer::proofs::Pieces::sorted_short))]
 pub(crate) fn hash_sorted(
     alloc: Global,

@@ -35,7 +35,7 @@ fn write_lines(lines: &mut Lines, dataset: &Dataset, node: u32) -> Result<(), No
     Ok(())
 }
 
-/// The first-degree hash of one node. What the lines were before does not matter.
+// The first-degree hash of one node. What the lines were before does not matter.
 pub(crate) fn hash_node(
     alloc: Global,
     lines: &mut Lines,

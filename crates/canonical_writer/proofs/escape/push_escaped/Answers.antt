@@ -17,8 +17,13 @@ loop-i-preserved c =
     elim c.if-needs_escape.branch [
       | then-needs_escape+in_ok-extend_from_slice+in_ok-push_escape w ↦ record {
         run = omega (arith, w.start-is);
-        so_far = rw (w.out-is, w.start-is) (run_ends c.loop-i.out.items w.extend_from_slice.new.self.items _ _ text c.loop-i.start i 0 c.loop-i-test.true kept.so_far w.in_ok-extend_from_slice.ensures.items w.in_ok-push_escape.ensures.ok);
-        front = rw w.out-is (starts_past _ c.loop-i.out.items _ _ kept.front (subst (λ t. StartsWith w.push_escape.new.out.items t) w.in_ok-extend_from_slice.ensures.items w.in_ok-push_escape.ensures.front));
+        so_far =
+            rw (w.out-is, w.start-is)
+            (run_ends c.loop-i.out.items w.extend_from_slice.new.self.items _ _ text c.loop-i.start i 0 c.loop-i-test.true kept.so_far
+            w.in_ok-extend_from_slice.ensures.items w.in_ok-push_escape.ensures.ok);
+        front =
+            rw w.out-is (starts_past _ c.loop-i.out.items _ _ kept.front
+            (subst (λ t. StartsWith w.push_escape.new.out.items t) w.in_ok-extend_from_slice.ensures.items w.in_ok-push_escape.ensures.front));
       }
       | else-needs_escape w ↦ record {
         run = omega (arith, w.start-is);

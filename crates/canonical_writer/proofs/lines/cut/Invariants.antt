@@ -6,5 +6,5 @@ use Rattle.canonical_writer.proofs.lines.cut.Given as goal
 abbrev pub invariant-loop-length : goal.invariant-loop-length
 invariant-loop-length l = record {
   cut : map (λ p. p.now) l.parts.items ++ pieces l.rest (drop l.length-index l.lengths) ≡ pieces l.text l.lengths;
-  room : sum (drop l.length-index l.lengths) ≤ length l.rest;
+  fits : sum (drop l.length-index l.lengths) ≤ length l.rest;
 }

@@ -12,8 +12,8 @@ split_at-requires g c = subst (λ n. n ≤ length c.loop-first.rest.now) (sym c.
 
 pub loop-first-preserved : goal.loop-first-preserved
 loop-first-preserved g c =
-    let name = g.N.Names.name c.args.names.now in
-    let terms = c.args.terms.now in
+    let name = g.N.Names.name c.args.named.now.names.now in
+    let terms = c.args.named.now.terms.now in
     let kept = c.loop-first.invariant in
     let rest = c.loop-first.rest.now in
     let n = c.subject_len.result in

@@ -6,7 +6,7 @@ use Rattle.canonical_writer.proofs.Stretches.{pairs_more, all_pairs}
 use Rattle.canonical_writer.proofs.runs.with_keys.Goals as goal
 
 pub split_at-requires : goal.split_at-requires
-split_at-requires c = next_fits c.loop-place.rest.now c.args.lengths.now c.loop-place.place _ c.loop-place-test.true c.loop-place.invariant.room
+split_at-requires c = next_fits c.loop-place.rest.now c.args.lengths.now c.loop-place.place _ c.loop-place-test.true c.loop-place.invariant.fits
 
 pub loop-place-preserved : goal.loop-place-preserved
 loop-place-preserved c =
@@ -19,7 +19,7 @@ loop-place-preserved c =
     record {
       pairs = pairs_more (λ p. p.now) (λ r. (r.key.now, r.quads.now)) c.loop-place.runs.items _ c.args.stretches.now i _ kept.pairs
           _ _ _ _ _ (omega (arith, c.requires.as_many)) c.in_ok-push.ensures.items (pieces-next rest lengths i _ more _ _ cut.front cut.back) refl;
-      room = others_fit rest lengths i _ more kept.room _ cut.back;
+      fits = others_fit rest lengths i _ more kept.fits _ cut.back;
     }
 
 pub returns : goal.returns

@@ -6,6 +6,7 @@ use Rattle.canonical_writer.proofs.runs.with_keys.Given as goal
 -- the runs so far, before the pairs of the keys and stretches that are left
 abbrev pub invariant-loop-place : goal.invariant-loop-place
 invariant-loop-place l = record {
-  pairs : map (λ r. (r.key.now, r.quads.now)) l.runs.items ++ zip (pieces l.rest (drop l.place l.lengths)) (map (λ p. p.now) (drop l.place l.stretches)) ≡ zip (pieces l.text l.lengths) (map (λ p. p.now) l.stretches);
-  room : sum (drop l.place l.lengths) ≤ length l.rest;
+  pairs : map (λ r. (r.key.now, r.quads.now)) l.runs.items ++ zip (pieces l.rest (drop l.place l.lengths)) (map (λ p. p.now) (drop l.place l.stretches)) ≡ zip (pieces l.text l.lengths)
+      (map (λ p. p.now) l.stretches);
+  fits : sum (drop l.place l.lengths) ≤ length l.rest;
 }

@@ -1,5 +1,4 @@
-use Rattle.rdf_terms.specs.CanonicalForm.{canonical_line}
-use Rattle.rdf_terms.specs.Document.{statement}
+use Rattle.rdf_terms.proofs.Common.{canonical_line, statement}
 use Rattle.canonical_writer.specs.Names.{naming_of}
 use Rattle.canonical_writer.proofs.Texts.{map_behind}
 use Rattle.canonical_writer.proofs.sorted.push_lines.Goals as goal
@@ -16,5 +15,5 @@ push_behind-requires g c =
 
 pub loop-quad-preserved : goal.loop-quad-preserved
 loop-quad-preserved g c =
-    map_behind (λ q. canonical_line (naming_of (g.N.Names.name c.args.names.now)) (statement c.args.terms.now q)) c.args.quads.now c.loop-quad.quad-index _
+    map_behind (λ q. canonical_line (naming_of (g.N.Names.name c.args.named.now.names.now)) (statement c.args.named.now.terms.now q)) c.args.quads.now c.loop-quad.quad-index _
     c.args.lines.now c.loop-quad.lines _ c.loop-quad-test.true c.loop-quad.invariant c.in_ok-push_behind.ensures

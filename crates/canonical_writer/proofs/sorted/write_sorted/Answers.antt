@@ -11,7 +11,8 @@ use Rattle.canonical_writer.proofs.sorted.write_sorted.Goals as goal
 
 pub sorted_runs-requires : goal.sorted_runs-requires
 sorted_runs-requires g c =
-    sym (ap length c.as_slice.ensures.value ∙ AllZip-long (λ k p. IsRun (g.N.Names.name c.args.names.now) c.args.terms.now k p.now) c.cut_at_subjects.new.keys c.in_ok-stretches.stretches.items c.in_ok-stretches.ensures.runs)
+    sym (ap length c.as_slice.ensures.value
+    ∙ AllZip-long (λ k p. IsRun (g.N.Names.name c.args.names.now) c.args.terms.now k p.now) c.cut_at_subjects.new.keys c.in_ok-stretches.stretches.items c.in_ok-stretches.ensures.runs)
 
 pub write_runs-requires-clause-runs : goal.write_runs-requires-clause-runs
 write_runs-requires-clause-runs g c =

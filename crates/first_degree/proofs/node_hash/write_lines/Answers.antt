@@ -11,7 +11,9 @@ push_line_at-requires c = place_of_quad c.args.dataset.now c.args.node c.quads_o
 pub loop-place-preserved : goal.loop-place-preserved
 loop-place-preserved c =
     let line = line_at c.args.dataset.now c.args.node in
-    c.in_ok-push_line_at.ensures ∙ (ap (λ ls. ls ++ line (get_or c.quads_of-places.result.now c.loop-place.place-index 0) ∷ []) c.loop-place.invariant ∙ sym (map_more line c.quads_of-places.result.now c.loop-place.place-index 0 c.loop-place-test.true))
+    c.in_ok-push_line_at.ensures
+    ∙ (ap (λ ls. ls ++ line (get_or c.quads_of-places.result.now c.loop-place.place-index 0) ∷ []) c.loop-place.invariant
+    ∙ sym (map_more line c.quads_of-places.result.now c.loop-place.place-index 0 c.loop-place-test.true))
 
 pub returns : goal.returns
 returns c =

@@ -1,6 +1,5 @@
 use Rattle.std.proofs.Common.{ap, ◌∙◌}
-use Rattle.rdf_terms.specs.Lists.{sorted}
-use Rattle.rdf_terms.proofs.SortedTexts.{sorted_from_sort_by_text}
+use Rattle.rdf_terms.proofs.Common.{sorted, sorted_from_sort_by_text}
 use Rattle.canonical_writer.proofs.lines.Lines.sorted.Goals as goal
 
 pub returns : goal.returns

@@ -1,12 +1,10 @@
 use Rattle.std.proofs.Common.{◌≡◌, length, map, ap, ◌∙◌, arith}
-use Rattle.rdf_terms.specs.Lists.{numbers_below}
-use Rattle.rdf_terms.specs.Document.{dataset as dataset_of}
+use Rattle.rdf_terms.proofs.Common.{numbers_below, dataset as dataset_of, length-numbers_below}
 use Rattle.canon_model.specs.Meaning.{meaning}
 use Rattle.canon_model.specs.FirstDegree.{hash_first_degree_quads}
 use Rattle.std.proofs.lemmas.List.{length-map}
 use Rattle.first_degree.proofs.Places.{values_more}
 use Rattle.first_degree.proofs.table.FirstTable.build.Goals as goal
-use Rattle.rdf_terms.proofs.Ranks.{length-numbers_below}
 
 pub loop-node-preserved : goal.loop-node-preserved
 loop-node-preserved c =

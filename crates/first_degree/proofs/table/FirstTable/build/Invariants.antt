@@ -1,6 +1,5 @@
 use Rattle.std.proofs.Common.{◌≡◌, map}
-use Rattle.rdf_terms.specs.Lists.{numbers_below}
-use Rattle.rdf_terms.specs.Document.{dataset as dataset_of}
+use Rattle.rdf_terms.proofs.Common.{numbers_below, dataset as dataset_of}
 use Rattle.canon_model.specs.Meaning.{meaning}
 use Rattle.canon_model.specs.FirstDegree.{hash_first_degree_quads}
 use Rattle.first_degree.proofs.table.FirstTable.build.Given as goal
