@@ -2,9 +2,7 @@
 use Rattle.std.proofs.Common.{ℕ, zero, suc, ◌+◌, ◌*◌, ◌/◌, ◌%◌, ◌<◌, ◌≤◌, List, [], ◌∷◌, ◌++◌, codes, length, length-append, ap, arith}
 use Rattle.std.specs.List.{flat_map}
 use Rattle.std.proofs.lemmas.Grind.{flat_map-append}
-use Rattle.rdf_terms.specs.Lists.{Text, numbers_below}
-use Rattle.rdf_terms.specs.Numeral.{numeral}
-use Rattle.rdf_terms.proofs.Numerals.{length-numeral-le}
+use Rattle.rdf_terms.proofs.Common.{Text, numbers_below, numeral, length-numeral-le}
 use Rattle.load_document.specs.LoadDocument.{number_line, edge_line, ring_lines, pair_lines, load_document}
 use Rattle.load_document.proofs.Statements.{ring_statements, pair_statements, statements_of}
 
@@ -26,12 +24,27 @@ number_line-short i h =
 
 edge_line-short : (front middle : Text) (i j : ℕ) → i < 1000000 → j < 1000000 → length (edge_line front i middle j) ≤ length front + length middle + 15
 edge_line-short front middle i j h k =
-    omega (arith, numeral-short i h, numeral-short j k, length-append front (numeral i ++ (middle ++ (numeral j ++ codes " .\n"))), length-append (numeral i) (middle ++ (numeral j ++ codes " .\n")), length-append middle (numeral j ++ codes " .\n"), length-append (numeral j) (codes " .\n"))
+    omega (
+      arith,
+      numeral-short i h,
+      numeral-short j k,
+      length-append front (numeral i ++ (middle ++ (numeral j ++ codes " .\n"))),
+      length-append (numeral i)
+          (middle ++ (numeral j ++ codes " .\n")),
+      length-append middle (numeral j ++ codes " .\n"),
+      length-append (numeral j) (codes " .\n"),
+    )
 
 ring_lines-short : (n i : ℕ) → i < n → n ≤ 400000 → length (ring_lines n i) ≤ 72
 ring_lines-short n i h bound =
     let below : (i + 1) % n < n = omega arith in
-    omega (arith, number_line-short i (omega arith), edge_line-short (codes "_:n") (codes " <http://e/next> _:n") i ((i + 1) % n) (omega arith) (omega arith), length-append (number_line i) (edge_line (codes "_:n") i (codes " <http://e/next> _:n") ((i + 1) % n)))
+    omega (
+      arith,
+      number_line-short i (omega arith),
+      edge_line-short (codes "_:n") (codes " <http://e/next> _:n") i ((i + 1) % n) (omega arith) (omega arith),
+      length-append (number_line i)
+          (edge_line (codes "_:n") i (codes " <http://e/next> _:n") ((i + 1) % n)),
+    )
 
 pair_lines-short : (j : ℕ) → j < 1000000 → length (pair_lines j) ≤ 76
 pair_lines-short j h =

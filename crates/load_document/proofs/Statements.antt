@@ -1,22 +1,19 @@
 -- The document is the canonical lines of valid statements.
-use Rattle.std.proofs.Common.{◌≡◌, ℕ, zero, suc, ◌+◌, ◌*◌, ◌/◌, ◌%◌, ◌<◌, ◌≤◌, Bool, true, false, not, ◌==◌, nat_lt, inl, inr, IsUtf8, if◌then◌else◌, List, [], ◌∷◌, ◌++◌, All, None, codes, drop, map, length, refl, sym, ap, subst, ◌∙◌, append_assoc, append-nil, true≢false, arith}
+use Rattle.std.proofs.Common.{◌≡◌, ℕ, zero, suc, ◌+◌, ◌*◌, ◌/◌, ◌%◌, ◌<◌, ◌≤◌, Bool, true, false, not, ◌==◌, nat_lt, inl, inr, IsUtf8, if◌then◌else◌, List, [], ◌∷◌, ◌++◌, All, None, codes, drop, map, length, refl, sym, ap, subst, ◌∙◌, append_assoc, append-nil, arith}
 use Rattle.std.specs.Char.{is_ascii_alphanumeric}
 use Rattle.std.specs.List.{flat_map, list_all}
-use Rattle.std.proofs.lemmas.Bool.{ltb-true}
+use Rattle.std.proofs.lemmas.Bool.{ltb-true, not-true}
 use Rattle.std.proofs.lemmas.Bool.Decides.{nat_tests}
 use Rattle.std.proofs.lemmas.Grind.{flat_map-append}
 use Rattle.std.proofs.lemmas.List.{map-append}
+use Rattle.std.proofs.lemmas.List.Folds.{concat-append}
 use Rattle.std.proofs.lemmas.List.Elements.{All-append, All-cons, All-weaker}
 use Rattle.std.proofs.lemmas.List.Sums.{AllPass-from_list_all}
 use Rattle.std.proofs.lemmas.Str.{IsUtf8-from_ascii}
 use Rattle.std.proofs.lemmas.Str.Ascii.{IsAscii-from_all}
-use Rattle.rdf_terms.specs.Lists.{Text, In, joined, numbers_below}
-use Rattle.rdf_terms.specs.Numeral.{numeral}
-use Rattle.rdf_terms.specs.Terms.{Statement, IsAbsoluteIri, IsValidStatement, is_excluded, is_scheme_byte}
-use Rattle.rdf_terms.specs.CanonicalForm.{Naming, canonical_line, escaped, xsd_string}
+use Rattle.rdf_terms.proofs.Common.{Text, In, joined, numbers_below, numeral, Statement, IsAbsoluteIri, IsValidStatement, is_excluded, is_scheme_byte, Naming, canonical_line, escaped, xsd_string, IsDigit, In-numeral, All-numeral}
 use Rattle.rdf_terms.specs.declared.term.Term.TheVariants.{Iri, Blank, Literal}
 use Rattle.rdf_terms.specs.declared.term.LiteralKind.TheVariants.{Typed}
-use Rattle.rdf_terms.proofs.Numerals.{IsDigit, In-numeral, All-numeral}
 use Rattle.canonical_writer.specs.Determined.{HasPlainNames}
 use Rattle.canonical_writer.specs.Escapes.{is_escaped}
 use Rattle.canonical_writer.proofs.Escaping.{escaped-plain}
@@ -25,18 +22,11 @@ use Rattle.load_document.specs.LoadDocument.{number_line, edge_line, ring_lines,
 
 -- ---- IRIs
 
-not_excluded : (c : ℕ) → not (is_excluded c) ≡ true → is_excluded c ≡ false
-not_excluded c h = by (is_excluded c) h
-  where
-    by : (b : Bool) → not b ≡ true → b ≡ false
-    by true e = absurd (true≢false (sym e))
-    by false e = refl
-
 -- an ASCII text without excluded characters that begins with `http:`
 http_iri : (text : Text) → text ≡ codes "http:" ++ drop 5 text → list_all (λ c. not (is_excluded c)) text ≡ true → list_all (λ c. nat_lt c 128) text ≡ true → IsAbsoluteIri text
 http_iri text begins allowed ascii = record {
   has_scheme = record { letter = 104; more = codes "ttp"; rest = drop 5 text; spelled = begins; begins = refl; goes_on = AllPass-from_list_all is_scheme_byte (codes "ttp") refl };
-  allowed = All-weaker (λ c. not (is_excluded c) ≡ true) (λ c. is_excluded c ≡ false) not_excluded text (AllPass-from_list_all (λ c. not (is_excluded c)) text allowed);
+  allowed = All-weaker (λ c. not (is_excluded c) ≡ true) (λ c. is_excluded c ≡ false) (λ c. not-true (is_excluded c)) text (AllPass-from_list_all (λ c. not (is_excluded c)) text allowed);
   utf8 = IsUtf8-from_ascii text (IsAscii-from_all text (All-weaker (λ c. nat_lt c 128 ≡ true) (λ c. c < 128) (λ c h. ltb-true c 128 h) text (AllPass-from_list_all (λ c. nat_lt c 128) text ascii)));
 }
 
@@ -143,9 +133,11 @@ statements-valid n some =
     let Valid = IsValidStatement (3 * n) in
     All-append Valid (flat_map (ring_statements n) (numbers_below n)) (flat_map pair_statements (numbers_below (n / 100)))
     (each_below Valid (ring_statements n) n n (omega arith) (λ i h.
-    two Valid _ _ (numbered-valid (3 * n) i (omega arith)) (edge-valid (3 * n) (3 * i) (3 * ((i + 1) % n)) (codes "http://e/next") next_iri (omega arith) (let r : (i + 1) % n < n = omega arith in omega arith))))
+    two Valid _ _ (numbered-valid (3 * n) i (omega arith))
+    (edge-valid (3 * n) (3 * i) (3 * ((i + 1) % n)) (codes "http://e/next") next_iri (omega arith) (let r : (i + 1) % n < n = omega arith in omega arith))))
     (each_below Valid pair_statements (n / 100) (n / 100) (omega arith) (λ j h.
-    two Valid _ _ (edge-valid (3 * n) (3 * j + 1) (3 * j + 2) (codes "http://e/pair") pair_iri (omega arith) (omega arith)) (edge-valid (3 * n) (3 * j + 2) (3 * j + 1) (codes "http://e/pair") pair_iri (omega arith) (omega arith))))
+    two Valid _ _ (edge-valid (3 * n) (3 * j + 1) (3 * j + 2) (codes "http://e/pair") pair_iri (omega arith) (omega arith))
+    (edge-valid (3 * n) (3 * j + 2) (3 * j + 1) (codes "http://e/pair") pair_iri (omega arith) (omega arith))))
 
 -- ---- their canonical lines are the document
 
@@ -159,7 +151,9 @@ unescaped (b ∷ bs) digits =
 
 numbered-line : (i : ℕ) → canonical_line name (numbered i) ≡ number_line i
 unfolding canonical_line numbered
-numbered-line i = rw (name-n i, unescaped (numeral i) (In-numeral i)) (ap (λ t. 95 ∷ 58 ∷ 110 ∷ t) (ap (λ t. numeral i ++ t) (ap (λ t. codes " <http://e/n> \"" ++ t) (append_assoc (numeral i) (34 ∷ []) (codes " .\n")))))
+numbered-line i =
+    rw (name-n i, unescaped (numeral i) (In-numeral i))
+    (ap (λ t. 95 ∷ 58 ∷ 110 ∷ t) (ap (λ t. numeral i ++ t) (ap (λ t. codes " <http://e/n> \"" ++ t) (append_assoc (numeral i) (34 ∷ []) (codes " .\n")))))
 
 edge-line : (from to i j : ℕ) (iri : Text) (a b : ℕ) → name from ≡ a ∷ numeral i → name to ≡ b ∷ numeral j
     → canonical_line name (edge from iri to) ≡ edge_line (95 ∷ 58 ∷ a ∷ []) i (32 ∷ 60 ∷ (iri ++ (62 ∷ 32 ∷ 95 ∷ 58 ∷ b ∷ []))) j
@@ -167,17 +161,14 @@ unfolding canonical_line edge
 edge-line from to i j iri a b e f =
     rw (e, f) (ap (λ t. 95 ∷ 58 ∷ a ∷ t) (ap (λ t. numeral i ++ t) (ap (λ t. 32 ∷ 60 ∷ t) (append_assoc iri (62 ∷ []) _ ∙ sym (append_assoc iri (62 ∷ 32 ∷ 95 ∷ 58 ∷ b ∷ []) _)))))
 
-joined-append : (xs ys : List Text) → joined (xs ++ ys) ≡ joined xs ++ joined ys
-joined-append [] ys = refl
-joined-append (x ∷ xs) ys = ap (λ t. x ++ t) (joined-append xs ys) ∙ sym (append_assoc x (joined xs) (joined ys))
-
 two_lines : (st su : Statement) (one other : Text) → canonical_line name st ≡ one → canonical_line name su ≡ other → joined (map (canonical_line name) (st ∷ su ∷ [])) ≡ one ++ other
 two_lines st su one other e f = λ i. e i ++ (append-nil (f i)) i
 
-lines-flat_map : (f : ℕ → List Statement) (text : ℕ → Text) → ((i : ℕ) → joined (map (canonical_line name) (f i)) ≡ text i) → (ns : List ℕ) → joined (map (canonical_line name) (flat_map f ns)) ≡ flat_map text ns
+lines-flat_map : (f : ℕ → List Statement) (text : ℕ → Text) → ((i : ℕ) → joined (map (canonical_line name) (f i)) ≡ text i) → (ns : List ℕ)
+    → joined (map (canonical_line name) (flat_map f ns)) ≡ flat_map text ns
 lines-flat_map f text each [] = refl
 lines-flat_map f text each (n ∷ ns) =
-    ap joined (map-append (canonical_line name) (f n) (flat_map f ns)) ∙ joined-append (map (canonical_line name) (f n)) (map (canonical_line name) (flat_map f ns))
+    ap joined (map-append (canonical_line name) (f n) (flat_map f ns)) ∙ concat-append (map (canonical_line name) (f n)) (map (canonical_line name) (flat_map f ns))
     ∙ (λ i. each n i ++ lines-flat_map f text each ns i)
 
 ring-lines : (n i : ℕ) → joined (map (canonical_line name) (ring_statements n i)) ≡ ring_lines n i
@@ -187,12 +178,13 @@ ring-lines n i = two_lines _ _ _ _ (numbered-line i) (edge-line (3 * i) (3 * ((i
 pair-lines : (j : ℕ) → joined (map (canonical_line name) (pair_statements j)) ≡ pair_lines j
 unfolding pair_statements
 pair-lines j =
-    two_lines _ _ _ _ (edge-line (3 * j + 1) (3 * j + 2) j j (codes "http://e/pair") 97 98 (name-a j) (name-b j)) (edge-line (3 * j + 2) (3 * j + 1) j j (codes "http://e/pair") 98 97 (name-b j) (name-a j))
+    two_lines _ _ _ _ (edge-line (3 * j + 1) (3 * j + 2) j j (codes "http://e/pair") 97 98 (name-a j) (name-b j))
+    (edge-line (3 * j + 2) (3 * j + 1) j j (codes "http://e/pair") 98 97 (name-b j) (name-a j))
 
 pub document-lines : (n : ℕ) → joined (map (canonical_line name) (statements_of n)) ≡ load_document n
 unfolding statements_of load_document
 document-lines n =
     let ring = flat_map (ring_statements n) (numbers_below n) in
     let pairs = flat_map pair_statements (numbers_below (n / 100)) in
-    ap joined (map-append (canonical_line name) ring pairs) ∙ joined-append (map (canonical_line name) ring) (map (canonical_line name) pairs)
+    ap joined (map-append (canonical_line name) ring pairs) ∙ concat-append (map (canonical_line name) ring) (map (canonical_line name) pairs)
     ∙ (λ i. lines-flat_map (ring_statements n) (ring_lines n) (ring-lines n) (numbers_below n) i ++ lines-flat_map pair_statements pair_lines pair-lines (numbers_below (n / 100)) i)

@@ -1,2 +1,1 @@
 pub mod LoadDocument
-pub mod Readable

@@ -3,8 +3,7 @@
 ghost use Rattle.std.specs.Prelude.{◌≡◌, ◌≤◌, ◌<◌, ◌*◌, ◌/◌, ◌++◌, length, IfOk, OnOk};
 ghost use Rattle.rdf_terms.specs.Lists.{numbers_below};
 ghost use Rattle.std.specs.List.{flat_map};
-ghost use Rattle.load_document.specs.LoadDocument.{number_line, edge_line, ring_lines, pair_lines, load_document};
-ghost use Rattle.load_document.specs.Readable.{IsReadable};
+ghost use Rattle.load_document.specs.LoadDocument.{number_line, edge_line, ring_lines, pair_lines, load_document, IsReadable};
 
 use canonical_writer::push_numbered;
 use rdf_terms::{Bytes, NoMemory};

@@ -1,7 +1,6 @@
 -- Lines of which the first was begun by the bytes before.
-use Rattle.std.proofs.Common.{◌≡◌, ℕ, ◌+◌, ◌<◌, ◌≤◌, List, ◌∷◌, ◌++◌, All, Result, Ok, Err, OnOk, false, length, sym, subst, arith}
-use Rattle.rdf_terms.specs.Lists.{Text}
-use Rattle.rdf_terms.specs.Document.{Document}
+use Rattle.std.proofs.Common.{◌≡◌, ℕ, ◌+◌, ◌<◌, ◌≤◌, ◌∷◌, ◌++◌, All, false, length, sym, subst, arith}
+use Rattle.rdf_terms.proofs.Common.{Text, Document}
 use Rattle.nquads_reader.specs.Lines.{lines_of}
 use Rattle.nquads_reader.specs.Pieces.{is_line_end}
 use Rattle.nquads_reader.specs.Feeding.{TakesLines, StopsAt, HasRoom}
@@ -25,5 +24,6 @@ module _ (tail bytes line rest : Text) (next : lines_of bytes ≡ line ∷ lines
   pub begun_stops : (fault : LineFault) (a c : Document) (m p : ℕ) → StopsAt (lines_of (tail ++ line)) fault a c m p → StopsAt (lines_of (tail ++ bytes)) fault a c m p
   begun_stops fault a c m p k = subst (λ ls. StopsAt ls fault a c m p) (sym whole) (stops_before (lines_of (tail ++ line)) (lines_of rest) fault a c m p k)
 
-  pub begun_stops_behind : (fault : LineFault) (a b c : Document) (m n p : ℕ) → TakesLines (lines_of (tail ++ line)) a b m n → StopsAt (lines_of rest) fault b c n p → StopsAt (lines_of (tail ++ bytes)) fault a c m p
+  pub begun_stops_behind : (fault : LineFault) (a b c : Document) (m n p : ℕ) → TakesLines (lines_of (tail ++ line)) a b m n → StopsAt (lines_of rest) fault b c n p
+      → StopsAt (lines_of (tail ++ bytes)) fault a c m p
   begun_stops_behind fault a b c m n p h k = subst (λ ls. StopsAt ls fault a c m p) (sym whole) (stops_behind (lines_of (tail ++ line)) (lines_of rest) a b c m n p h fault k)

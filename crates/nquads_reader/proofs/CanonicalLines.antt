@@ -2,9 +2,7 @@
 use Rattle.std.proofs.Common.{◌≡◌, ℕ, suc, ◌≤◌, List, [], ◌∷◌, All, map, length, refl, ap, arith}
 use Rattle.std.specs.List.{AllZip}
 use Rattle.std.proofs.lemmas.List.{length-map}
-use Rattle.rdf_terms.specs.Lists.{Text, joined}
-use Rattle.rdf_terms.specs.Terms.{Statement, IsValidStatement}
-use Rattle.rdf_terms.specs.CanonicalForm.{Naming, canonical_line}
+use Rattle.rdf_terms.proofs.Common.{Text, joined, Statement, IsValidStatement, Naming, canonical_line}
 use Rattle.rdf_terms.specs.declared.term.Label.{Label}
 use Rattle.canonical_writer.specs.Determined.{HasPlainNames}
 use Rattle.nquads_reader.specs.Lines.{lines_of}
@@ -29,9 +27,15 @@ one_for_each R (x ∷ xs) (y ∷ ys) h = ap suc (one_for_each R xs ys h.1)
 -- there are no more distinct quads than lines that state one
 few : (lines : List Text) (quads : List StatedQuad) (labels : List Label) (sts : List Statement) → AllState lines quads → AreRead lines labels sts → length sts ≤ length quads
 few lines quads labels sts all read =
-    omega (arith, all_room [] read.numbered sts read.statements_are, one_for_each (IsStatementOf labels) read.stated read.numbered read.numbers, ap length (state-same lines read.stated quads read.faultless all))
+    omega (
+      arith,
+      all_room [] read.numbered sts read.statements_are,
+      one_for_each (IsStatementOf labels) read.stated read.numbered read.numbers,
+      ap length (state-same lines read.stated quads read.faultless all),
+    )
 
-module _ (ν : Naming) (nodes : ℕ) (sts : List Statement) (plain : HasPlainNames nodes ν) (named : HasNoEmptyName nodes ν) (valid : All (IsValidStatement nodes) sts) (within : length sts ≤ MAX_QUADS) where
+module _ (ν : Naming) (nodes : ℕ) (sts : List Statement) (plain : HasPlainNames nodes ν) (named : HasNoEmptyName nodes ν) (valid : All (IsValidStatement nodes) sts)
+    (within : length sts ≤ MAX_QUADS) where
   abbrev bytes : Text
   bytes = joined (map (canonical_line ν) sts)
 

@@ -2,11 +2,10 @@
 use Rattle.std.proofs.Common.{◌≡◌, ◌≢◌, ℕ, zero, suc, ◌-◌, ◌<◌, ◌≤◌, List, [], ◌∷◌, Some, IfSome, All, length, take, slice_get, refl, ap, subst, inl, inr, arith}
 use Rattle.std.proofs.lemmas.Bool.{cases_lt}
 use Rattle.std.proofs.lemmas.List.Elements.{All-head, All-tail}
-use Rattle.rdf_terms.specs.Lists.{Text}
-use Rattle.rdf_terms.specs.Terms.{Statement}
+use Rattle.rdf_terms.proofs.Common.{Text, Statement}
 use Rattle.rdf_terms.specs.declared.term.Label.{Label}
 use Rattle.nquads_reader.specs.Lines.{lines_of}
-use Rattle.nquads_reader.specs.Document.{AllState, IsAbsolute, IsNotUtf8, IsBad, HasRelativeIri, IsLeastFaulty, IsNQuads, IsCauseOf}
+use Rattle.nquads_reader.specs.Document.{AllState, HasAbsoluteIris, IsNotUtf8, IsBad, HasRelativeIri, IsLeastFaulty, IsNQuads, IsCauseOf}
 use Rattle.nquads_reader.specs.declared.TheConstants.{MAX_QUADS}
 use Rattle.nquads_reader.specs.declared.quad.StatedQuad.{StatedQuad}
 use Rattle.nquads_reader.specs.declared.fault.ReadFault.{ReadFault}
@@ -44,7 +43,7 @@ pub relative_passed : (line : Text) → HasRelativeIri line → IsPassed line �
 relative_passed line fault passed =
     let relative = fault.1 in
     let same = stated_same line passed.0 (Some relative.0) passed.1.states relative.1 in
-    relative.2 (subst (λ stated. IfSome stated IsAbsolute) same passed.1.absolute)
+    relative.2 (subst (λ stated. IfSome stated HasAbsoluteIris) same passed.1.absolute)
 
 not_utf8_bad : Excludes IsNotUtf8 IsBad
 not_utf8_bad line fault other = fault other.0
@@ -61,7 +60,8 @@ module _ (lines : List Text) (HasFault HasOther : Text → Type 0) (m n : ℕ) (
   not_before : Excludes HasFault IsPassed → m < n → ⊥
   not_before excludes less = excludes a.line a.fault (passed_at (take (n - 1) lines) (m - 1) a.line b.before (front_at lines (n - 1) (m - 1) a.line (omega arith) a.at))
 
-module _ (lines : List Text) (HasFault HasOther : Text → Type 0) (m n : ℕ) (a : IsLeastFaulty HasFault lines m) (b : IsLeastFaulty HasOther lines n) (x : Excludes HasFault IsPassed) (y : Excludes HasOther IsPassed) where
+module _ (lines : List Text) (HasFault HasOther : Text → Type 0) (m n : ℕ) (a : IsLeastFaulty HasFault lines m) (b : IsLeastFaulty HasOther lines n) (x : Excludes HasFault IsPassed)
+    (y : Excludes HasOther IsPassed) where
   same_line : m ≡ n
   same_line =
       elim (cases_lt m n) as (λ _. m ≡ n) [
@@ -83,10 +83,12 @@ module _ (lines : List Text) (HasFault HasOther : Text → Type 0) (m n : ℕ) (
 
 -- ---- a document that is read
 
-pub no_fault_of_lines : (lines : List Text) (quads : List StatedQuad) (HasFault : Text → Type 0) (n : ℕ) → AllState lines quads → IsLeastFaulty HasFault lines n → ((line : Text) → HasFault line → IsPassed line → ⊥) → ⊥
+pub no_fault_of_lines : (lines : List Text) (quads : List StatedQuad) (HasFault : Text → Type 0) (n : ℕ) → AllState lines quads → IsLeastFaulty HasFault lines n
+    → ((line : Text) → HasFault line → IsPassed line → ⊥) → ⊥
 no_fault_of_lines lines quads HasFault n all least excludes = excludes least.line least.fault (passed_at lines (n - 1) least.line (all_passed lines quads all) least.at)
 
-no_fault : (bytes : Text) (labels : List Label) (sts : List Statement) (HasFault : Text → Type 0) (n : ℕ) → IsNQuads bytes labels sts → IsLeastFaulty HasFault (lines_of bytes) n → Excludes HasFault IsPassed → ⊥
+no_fault : (bytes : Text) (labels : List Label) (sts : List Statement) (HasFault : Text → Type 0) (n : ℕ) → IsNQuads bytes labels sts → IsLeastFaulty HasFault (lines_of bytes) n
+    → Excludes HasFault IsPassed → ⊥
 no_fault bytes labels sts HasFault n read least excludes = no_fault_of_lines (lines_of bytes) read.stated HasFault n read.faultless least excludes
 
 pub no_cause : (bytes : Text) (labels : List Label) (sts : List Statement) → IsNQuads bytes labels sts → length sts ≤ MAX_QUADS → (fault : ReadFault) → IsCauseOf bytes fault → fault ≡ NoMemory

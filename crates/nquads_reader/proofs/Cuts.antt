@@ -203,7 +203,8 @@ pub record IsFurther (so_far bytes closed unended ended tail : Text) : Type 0 wh
   pub cut : IsCut (so_far ++ bytes) now_ended (tail_behind tail closed ++ unended)
   pub lines : lines_of now_ended ≡ lines_of ended ++ ended_lines tail closed
 
-further : (so_far ended tail : Text) → IsCut so_far ended tail → (bytes closed unended : Text) → IsCut bytes closed unended → (ends_with_cr so_far ≡ true → begins_with_lf bytes ≡ false) → IsFurther so_far bytes closed unended ended tail
+further : (so_far ended tail : Text) → IsCut so_far ended tail → (bytes closed unended : Text) → IsCut bytes closed unended → (ends_with_cr so_far ≡ true → begins_with_lf bytes ≡ false)
+    → IsFurther so_far bytes closed unended ended tail
 further so_far ended tail cut bytes [] unended more apart = record {
   now_ended = ended;
   cut = record {
@@ -291,7 +292,8 @@ behind_short after_cr piece = by (after_cr && begins_with_lf piece)
 
 -- ---- a piece
 
-pub piece_cut : (so_far ended tail : Text) → IsCut so_far ended tail → (piece closed unended : Text) → IsCut (behind_line_end (ends_with_cr so_far) piece) closed unended → IsFurther so_far piece closed unended ended tail
+pub piece_cut : (so_far ended tail : Text) → IsCut so_far ended tail → (piece closed unended : Text) → IsCut (behind_line_end (ends_with_cr so_far) piece) closed unended
+    → IsFurther so_far piece closed unended ended tail
 piece_cut so_far ended tail cut piece closed unended more =
     let bytes : Text = behind_line_end (ends_with_cr so_far) piece in
     let set = set_apart so_far ended tail cut piece in

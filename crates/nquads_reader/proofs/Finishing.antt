@@ -1,16 +1,14 @@
 -- What a reader answers for the bytes that it was fed, and how one that stopped goes on.
-use Rattle.std.proofs.Common.{◌≡◌, ◌≢◌, ℕ, ◌+◌, ◌≤◌, Bool, false, List, [], ◌++◌, inl, inr, Option, Some, None, length, refl, sym, ap, subst, ◌∙◌, arith, length-append}
-use Rattle.rdf_terms.specs.Lists.{Text}
-use Rattle.rdf_terms.specs.Document.{Document, statements}
+use Rattle.std.proofs.Common.{◌≡◌, ◌≢◌, ℕ, ◌+◌, ◌++◌, inl, inr, Some, None, length, sym, ap, subst, ◌∙◌, length-append}
+use Rattle.rdf_terms.proofs.Common.{Text, Document, statements}
 use Rattle.nquads_reader.specs.Lines.{lines_of}
 use Rattle.nquads_reader.specs.Document.{IsNQuads, IsCauseOf}
 use Rattle.nquads_reader.specs.Reading.{fault_at}
-use Rattle.nquads_reader.specs.Pieces.{Reader, ends_with_cr, AreTaken, AreStopped, GoesOn, HasStopped, StandsFor}
-use Rattle.nquads_reader.specs.Feeding.{TakesLines, StopsAt, HasRoom}
+use Rattle.nquads_reader.specs.Pieces.{Reader, GoesOn, HasStopped, StandsFor}
+use Rattle.nquads_reader.specs.Feeding.{TakesLines, StopsAt}
 use Rattle.nquads_reader.specs.declared.fault.LineFault.{LineFault}
 use Rattle.nquads_reader.specs.declared.fault.LineFault.TheVariants.{NotUtf8, BadLine, RelativeIri, NoMemory}
 use Rattle.nquads_reader.specs.declared.fault.ReadFault.{ReadFault}
-use Rattle.nquads_reader.specs.declared.fault.ReadFault.TheVariants.{NoMemory as Memory}
 use Rattle.nquads_reader.proofs.Pieces.{all_read, last_stops, stays_stopped, stopped_cause}
 
 -- ---- a reader whose ended lines have no fault
@@ -48,5 +46,12 @@ module _ (reader : Reader) (bytes : Text) (fault : ReadFault) (some : reader.fau
   pub stays : (piece : Text) → StandsFor (record reader { fed = reader.fed + length piece }) (bytes ++ piece)
   stays piece = record {
     fed = ap (λ n. n + length piece) stands.fed ∙ sym (length-append bytes piece);
-    holds = inr (record { fault = stopped.fault; kept = stopped.kept; after_cr = stopped.after_cr; tail = stopped.tail; stopped = stays_stopped bytes reader.draft reader.lines stopped.fault stopped.stopped piece });
+    holds =
+        inr (record {
+          fault = stopped.fault;
+          kept = stopped.kept;
+          after_cr = stopped.after_cr;
+          tail = stopped.tail;
+          stopped = stays_stopped bytes reader.draft reader.lines stopped.fault stopped.stopped piece;
+        });
   }

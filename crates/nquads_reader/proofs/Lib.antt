@@ -8,7 +8,6 @@ mod Room
 mod ValidQuad
 mod ReadLines
 mod Used
-mod Adding
 pub mod OneReading
 pub mod Causes
 mod Cuts

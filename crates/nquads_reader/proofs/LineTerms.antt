@@ -141,7 +141,8 @@ module _ (text : Text) (s : Resource) (at_predicate : Text) (subject : IsSpaced 
   object_there : (p at_object : Text) → IsSpaced (BeginsWithIri at_predicate p) at_object → IsSpaced (BeginsWithObject at_object quad.object) h.at_graph_name
   object_there p at_object x = subst (λ t. IsSpaced (BeginsWithObject t quad.object) h.at_graph_name) (sym (object_place p at_object x)) h.object
 
-  graph_name_there : (p at_object : Text) (o : Object) (at_graph_name : Text) → IsSpaced (BeginsWithIri at_predicate p) at_object → IsSpaced (BeginsWithObject at_object o) at_graph_name → BeginsWithGraphName at_graph_name quad.graph_name rest
+  graph_name_there : (p at_object : Text) (o : Object) (at_graph_name : Text) → IsSpaced (BeginsWithIri at_predicate p) at_object → IsSpaced (BeginsWithObject at_object o) at_graph_name
+      → BeginsWithGraphName at_graph_name quad.graph_name rest
   graph_name_there p at_object o at_graph_name x y =
       let e = spaced_object_same at_object o quad.object at_graph_name h.at_graph_name y (object_there p at_object x) in
       subst (λ t. BeginsWithGraphName t quad.graph_name rest) (sym e.1) h.graph_name
@@ -163,33 +164,43 @@ no_resource text iri label (Label v) r h = no_reading (BlankNodeLabel NQuads) te
 pub no_tag : (text : Text) → TextBeginsWithNone LangTag text → (v r : Text) → BeginsWithTag text v r → ⊥
 no_tag text none v r h = no_reading LangTag text v r none h
 
-pub datatype_reads : {X : Type 0} (view : X → Text × Text) (o : Option X) (text first behind at_iri : Text) → text ≡ 94 ∷ first → first ≡ 94 ∷ behind → IsWhiteThen behind at_iri → Reads view (BeginsWithIri at_iri) o → Reads view (BeginsWithDatatype text) o
+pub datatype_reads : {X : Type 0} (view : X → Text × Text) (o : Option X) (text first behind at_iri : Text) → text ≡ 94 ∷ first → first ≡ 94 ∷ behind → IsWhiteThen behind at_iri
+    → Reads view (BeginsWithIri at_iri) o → Reads view (BeginsWithDatatype text) o
 datatype_reads view (Some x) text first behind at_iri one two white h = record { behind = behind; at_iri = at_iri; marks = one ∙ ap (λ t. 94 ∷ t) two; white = white; datatype = h }
 datatype_reads view None text first behind at_iri one two white h = λ v r d.
     let same : behind ≡ d.behind = tails 94 94 behind d.behind (tails 94 94 (94 ∷ behind) (94 ∷ d.behind) (sym (one ∙ ap (λ t. 94 ∷ t) two) ∙ d.marks)) in
     let at : at_iri ≡ d.at_iri = white_same behind at_iri d.at_iri white (subst (λ t. IsWhiteThen t d.at_iri) (sym same) d.white) in
     h v r (subst (λ t. BeginsWithIri t v r) (sym at) d.datatype)
 
-pub no_suffix : (text lexical after at_suffix : Text) → BeginsWithString text lexical after → IsWhiteThen after at_suffix → ((k : LiteralKind) (r : Text) → BeginsWithSuffix at_suffix k r → ⊥) → (l : Literal) (r : Text) → BeginsWithLiteral text l r → ⊥
+pub no_suffix : (text lexical after at_suffix : Text) → BeginsWithString text lexical after → IsWhiteThen after at_suffix → ((k : LiteralKind) (r : Text) → BeginsWithSuffix at_suffix k r → ⊥)
+    → (l : Literal) (r : Text) → BeginsWithLiteral text l r → ⊥
 no_suffix text lexical after at_suffix string white none l r h =
-    let e = spaced_same (BeginsWithString text) (λ v w p q f g. string_same text v p w q f g) lexical l.lexical at_suffix h.at_suffix (record { after = after; begins = string; white = white }) h.lexical in
+    let e = spaced_same (BeginsWithString text) (λ v w p q f g. string_same text v p w q f g) lexical l.lexical at_suffix h.at_suffix
+    (record { after = after; begins = string; white = white }) h.lexical in
     none l.kind r (subst (λ t. BeginsWithSuffix t l.kind r) (sym e.1) h.suffix)
 
-pub no_predicate : (text : Text) (s : Resource) (after at_predicate : Text) → BeginsWithResource text s after → IsWhiteThen after at_predicate → ((v r : Text) → BeginsWithIri at_predicate v r → ⊥) → (q : StatedQuad) (rest : Text) → BeginsWithTerms text q rest → ⊥
+pub no_predicate : (text : Text) (s : Resource) (after at_predicate : Text) → BeginsWithResource text s after → IsWhiteThen after at_predicate → ((v r : Text) → BeginsWithIri at_predicate v r → ⊥)
+    → (q : StatedQuad) (rest : Text) → BeginsWithTerms text q rest → ⊥
 no_predicate text s after at_predicate subject white none q rest h =
     let there = predicate_there text s at_predicate (record { after = after; begins = subject; white = white }) q rest h in
     none q.predicate there.after there.begins
 
-pub no_object : (text : Text) (s : Resource) (a1 at_predicate p a2 at_object : Text) → BeginsWithResource text s a1 → IsWhiteThen a1 at_predicate → BeginsWithIri at_predicate p a2 → IsWhiteThen a2 at_object → ((v : Object) (r : Text) → BeginsWithObject at_object v r → ⊥) → (q : StatedQuad) (rest : Text) → BeginsWithTerms text q rest → ⊥
+pub no_object : (text : Text) (s : Resource) (a1 at_predicate p a2 at_object : Text) → BeginsWithResource text s a1 → IsWhiteThen a1 at_predicate → BeginsWithIri at_predicate p a2
+    → IsWhiteThen a2 at_object → ((v : Object) (r : Text) → BeginsWithObject at_object v r → ⊥) → (q : StatedQuad) (rest : Text) → BeginsWithTerms text q rest → ⊥
 no_object text s a1 at_predicate p a2 at_object subject w1 predicate w2 none q rest h =
     let there = object_there text s at_predicate (record { after = a1; begins = subject; white = w1 }) q rest h p at_object (record { after = a2; begins = predicate; white = w2 }) in
     none q.object there.after there.begins
 
-pub no_graph_name : (text : Text) (s : Resource) (a1 at_predicate p a2 at_object : Text) (o : Object) (a3 at_graph_name : Text) → BeginsWithResource text s a1 → IsWhiteThen a1 at_predicate → BeginsWithIri at_predicate p a2 → IsWhiteThen a2 at_object → BeginsWithObject at_object o a3 → IsWhiteThen a3 at_graph_name → ((v : Option Resource) (r : Text) → BeginsWithGraphName at_graph_name v r → ⊥) → (q : StatedQuad) (rest : Text) → BeginsWithTerms text q rest → ⊥
+pub no_graph_name : (text : Text) (s : Resource) (a1 at_predicate p a2 at_object : Text) (o : Object) (a3 at_graph_name : Text) → BeginsWithResource text s a1 → IsWhiteThen a1 at_predicate
+    → BeginsWithIri at_predicate p a2 → IsWhiteThen a2 at_object → BeginsWithObject at_object o a3 → IsWhiteThen a3 at_graph_name
+    → ((v : Option Resource) (r : Text) → BeginsWithGraphName at_graph_name v r → ⊥) → (q : StatedQuad) (rest : Text) → BeginsWithTerms text q rest → ⊥
 no_graph_name text s a1 at_predicate p a2 at_object o a3 at_graph_name subject w1 predicate w2 object w3 none q rest h =
-    none q.graph_name rest (graph_name_there text s at_predicate (record { after = a1; begins = subject; white = w1 }) q rest h p at_object o at_graph_name (record { after = a2; begins = predicate; white = w2 }) (record { after = a3; begins = object; white = w3 }))
+    none q.graph_name rest (graph_name_there text s at_predicate (record { after = a1; begins = subject; white = w1 }) q rest h p at_object o at_graph_name
+    (record { after = a2; begins = predicate; white = w2 }) (record { after = a3; begins = object; white = w3 }))
 
-pub all_terms : (text : Text) (s : Resource) (a1 at_predicate p a2 at_object : Text) (o : Object) (a3 at_graph_name : Text) (g : Option Resource) (rest : Text) → BeginsWithResource text s a1 → IsWhiteThen a1 at_predicate → BeginsWithIri at_predicate p a2 → IsWhiteThen a2 at_object → BeginsWithObject at_object o a3 → IsWhiteThen a3 at_graph_name → BeginsWithGraphName at_graph_name g rest → BeginsWithTerms text (record { subject = s; predicate = p; object = o; graph_name = g }) rest
+pub all_terms : (text : Text) (s : Resource) (a1 at_predicate p a2 at_object : Text) (o : Object) (a3 at_graph_name : Text) (g : Option Resource) (rest : Text) → BeginsWithResource text s a1
+    → IsWhiteThen a1 at_predicate → BeginsWithIri at_predicate p a2 → IsWhiteThen a2 at_object → BeginsWithObject at_object o a3 → IsWhiteThen a3 at_graph_name
+    → BeginsWithGraphName at_graph_name g rest → BeginsWithTerms text (record { subject = s; predicate = p; object = o; graph_name = g }) rest
 all_terms text s a1 at_predicate p a2 at_object o a3 at_graph_name g rest subject w1 predicate w2 object w3 graph_name = record {
   at_predicate = at_predicate;
   at_object = at_object;
@@ -222,14 +233,16 @@ comment_not [] a r h c = by (resource_begins [] a r h)
 comment_not (d ∷ ds) a r h c = resource_not (d ∷ ds) a r 35 (λ e. omega arith) (λ e. omega arith) h (record { more = ds; is = ap (λ x. x ∷ ds) c })
 
 -- a line that is not blank and begins with no terms states nothing
-pub states_nothing : (line text : Text) → IsWhiteThen line text → (IsOptionalComment text → ⊥) → ((q : StatedQuad) (rest : Text) → BeginsWithTerms text q rest → ⊥) → (stated : Option StatedQuad) → States line stated → ⊥
+pub states_nothing : (line text : Text) → IsWhiteThen line text → (IsOptionalComment text → ⊥) → ((q : StatedQuad) (rest : Text) → BeginsWithTerms text q rest → ⊥) → (stated : Option StatedQuad)
+    → States line stated → ⊥
 states_nothing line text white no_comment no_terms None h = no_comment (blank_same line text white h)
 states_nothing line text white no_comment no_terms (Some q) h =
     let same : h.at_subject ≡ text = white_same line h.at_subject text h.white white in
     no_terms q h.at_dot (subst (λ t. BeginsWithTerms t q h.at_dot) same h.terms)
 
 -- nor does one whose terms no end of a statement follows
-pub states_no_end : (line text : Text) (quad : StatedQuad) (rest : Text) → IsWhiteThen line text → (IsOptionalComment text → ⊥) → BeginsWithTerms text quad rest → (EndsStatement rest → ⊥) → (stated : Option StatedQuad) → States line stated → ⊥
+pub states_no_end : (line text : Text) (quad : StatedQuad) (rest : Text) → IsWhiteThen line text → (IsOptionalComment text → ⊥) → BeginsWithTerms text quad rest → (EndsStatement rest → ⊥)
+    → (stated : Option StatedQuad) → States line stated → ⊥
 states_no_end line text quad rest white no_comment terms no_end None h = no_comment (blank_same line text white h)
 states_no_end line text quad rest white no_comment terms no_end (Some q) h =
     let same : h.at_subject ≡ text = white_same line h.at_subject text h.white white in

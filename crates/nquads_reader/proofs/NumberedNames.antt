@@ -3,11 +3,8 @@ use Rattle.std.proofs.Common.{◌≡◌, ℕ, ◌<◌, true, ◌++◌, inl, inr,
 use Rattle.std.specs.Char.{is_ascii_alphanumeric}
 use Rattle.std.proofs.lemmas.List.{append_cancel_left}
 use Rattle.std.proofs.lemmas.List.Elements.{All-cons}
-use Rattle.rdf_terms.specs.Lists.{Text}
-use Rattle.rdf_terms.specs.Numeral.{numeral}
-use Rattle.rdf_terms.specs.CanonicalForm.{Naming}
+use Rattle.rdf_terms.proofs.Common.{Text, numeral, Naming, numeral-injective, numeral-nonempty}
 use Rattle.rdf_terms.specs.declared.term.Prefix.TheVariants.{Canonical, Temporary}
-use Rattle.rdf_terms.proofs.Numerals.{numeral-injective, numeral-nonempty}
 use Rattle.canonical_writer.specs.Determined.{HasPlainNames}
 use Rattle.canonical_writer.proofs.NameTexts.{numeral-plain, identifier-plain}
 use Rattle.nquads_reader.specs.RoundTrip.{IsPrefix, IsNumbered}

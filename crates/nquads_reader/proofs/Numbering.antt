@@ -1,9 +1,8 @@
 -- Labels and statements as they are added, one after the other.
-use Rattle.std.proofs.Common.{◌≡◌, ℕ, zero, suc, List, [], ◌∷◌, ◌++◌, inl, inr, Option, Some, None, IfSome, length, slice_get, refl, sym, ap, subst, ◌∙◌, append_assoc, append-nil}
+use Rattle.std.proofs.Common.{◌≡◌, ℕ, zero, suc, List, [], ◌∷◌, ◌++◌, Option, Some, None, IfSome, length, slice_get, refl, sym, ap, subst, ◌∙◌}
 use Rattle.std.specs.List.{AllZip}
 use Rattle.std.proofs.lemmas.Option.{slice_get_within}
-use Rattle.rdf_terms.specs.Terms.{Statement, IsIri, IsIriOrBlank, IsValidTerm, IsValidStatement}
-use Rattle.rdf_terms.specs.Document.{Adds, AddsAll, Extends}
+use Rattle.rdf_terms.proofs.Common.{Statement, IsIri, IsIriOrBlank, IsValidTerm, IsValidStatement, AddsAll, Extends, AddsAll-append, AddsAll-extends}
 use Rattle.rdf_terms.specs.declared.term.Term.{Term}
 use Rattle.rdf_terms.specs.declared.term.Term.TheVariants.{Iri as IriTerm}
 use Rattle.rdf_terms.specs.declared.term.Label.{Label}
@@ -15,23 +14,6 @@ use Rattle.nquads_reader.specs.declared.quad.Object.TheVariants.{Resource as Res
 use Rattle.nquads_reader.specs.declared.quad.StatedQuad.{StatedQuad}
 use Rattle.nquads_reader.specs.Document.{IsResourceTerm, IsObjectTerm, IsGraphNameTerm, IsStatementOf, labels_of_resource, labels_of_object, labels_of_graph_name, mentioned}
 use Rattle.nquads_reader.specs.Reading.{IsValidResource, IsValidObject, IsValidQuad}
-
--- ---- adding
-
-pub AddsAll-append : {A : Type 0} (a : List A) (xs : List A) (b ys c : List A) → AddsAll a xs b → AddsAll b ys c → AddsAll a (xs ++ ys) c
-AddsAll-append a [] b ys c h k = subst (λ o. AddsAll o ys c) h k
-AddsAll-append a (x ∷ xs) b ys c h k = (h.0, h.1, AddsAll-append h.0 xs b ys c h.2 k)
-
-added_extends : {A : Type 0} (old : List A) (x : A) (new : List A) → Adds old x new → Extends old new
-added_extends old x new (inl p) = ([], p.0 ∙ sym (append-nil old))
-added_extends old x new (inr p) = (x ∷ [], p.0)
-
-pub AddsAll-extends : {A : Type 0} (old : List A) (xs : List A) (new : List A) → AddsAll old xs new → Extends old new
-AddsAll-extends old [] new h = ([], h ∙ sym (append-nil old))
-AddsAll-extends old (x ∷ xs) new h =
-    let one = added_extends old x h.0 h.1 in
-    let more = AddsAll-extends h.0 xs new h.2 in
-    (one.0 ++ more.0, more.1 ∙ ap (λ o. o ++ more.0) one.1 ∙ append_assoc old one.0 more.0)
 
 -- ---- what a label names stays where labels come behind it
 
@@ -69,9 +51,12 @@ statements_kept old new e (q ∷ qs) (st ∷ sts) h = (statement_kept old new e 
 
 -- ---- one quad
 
-module _ (q : StatedQuad) (l0 l1 l2 l3 : List Label) (s o : Term) (g : Option Term) (sl : AddsAll l0 (labels_of_resource q.subject) l1) (ol : AddsAll l1 (labels_of_object q.object) l2) (gl : AddsAll l2 (labels_of_graph_name q.graph_name) l3) (si : IsResourceTerm l1 q.subject s) (oi : IsObjectTerm l2 q.object o) (gi : IsGraphNameTerm l3 q.graph_name g) where
+module _ (q : StatedQuad) (l0 l1 l2 l3 : List Label) (s o : Term) (g : Option Term) (sl : AddsAll l0 (labels_of_resource q.subject) l1) (ol : AddsAll l1 (labels_of_object q.object) l2)
+    (gl : AddsAll l2 (labels_of_graph_name q.graph_name) l3) (si : IsResourceTerm l1 q.subject s) (oi : IsObjectTerm l2 q.object o) (gi : IsGraphNameTerm l3 q.graph_name g) where
   pub quad_labels : AddsAll l0 (mentioned q) l3
-  quad_labels = AddsAll-append l0 (labels_of_resource q.subject) l1 (labels_of_object q.object ++ labels_of_graph_name q.graph_name) l3 sl (AddsAll-append l1 (labels_of_object q.object) l2 (labels_of_graph_name q.graph_name) l3 ol gl)
+  quad_labels =
+      AddsAll-append l0 (labels_of_resource q.subject) l1 (labels_of_object q.object ++ labels_of_graph_name q.graph_name) l3 sl
+      (AddsAll-append l1 (labels_of_object q.object) l2 (labels_of_graph_name q.graph_name) l3 ol gl)
 
   last : Extends l2 l3
   last = AddsAll-extends l2 (labels_of_graph_name q.graph_name) l3 gl
@@ -94,7 +79,8 @@ object_valid : (labels : List Label) (o : Object) (t : Term) → IsValidObject o
 object_valid labels (ResourceObject r) t valid h = (resource_valid labels r t valid h).1
 object_valid labels (LiteralObject l) t valid h = subst (IsValidTerm (length labels)) (sym h) valid
 
-graph_name_valid : (labels : List Label) (g : Option Resource) (t : Option Term) → IfSome g IsValidResource → IsGraphNameTerm labels g t → IfSome t IsIriOrBlank × IfSome t (IsValidTerm (length labels))
+graph_name_valid : (labels : List Label) (g : Option Resource) (t : Option Term) → IfSome g IsValidResource → IsGraphNameTerm labels g t
+    → IfSome t IsIriOrBlank × IfSome t (IsValidTerm (length labels))
 graph_name_valid labels None t valid h = subst (λ u. IfSome u IsIriOrBlank × IfSome u (IsValidTerm (length labels))) (sym h) (tt, tt)
 graph_name_valid labels (Some r) t valid h = subst (λ u. IfSome u IsIriOrBlank × IfSome u (IsValidTerm (length labels))) (sym h.2) (resource_valid labels r h.0 valid h.1)
 

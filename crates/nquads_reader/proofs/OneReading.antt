@@ -1,14 +1,11 @@
 -- A document has one reading.
-use Rattle.std.proofs.Common.{◌≡◌, List, [], ◌∷◌, ◌++◌, inl, inr, Option, Some, None, refl, sym, ap, subst, ◌∙◌}
+use Rattle.std.proofs.Common.{◌≡◌, List, [], ◌∷◌, ◌++◌, Option, Some, None, refl, sym, ap, subst, ◌∙◌}
 use Rattle.std.specs.List.{flat_map, AllZip}
-use Rattle.rdf_terms.specs.Lists.{Text, AreDistinct}
-use Rattle.rdf_terms.specs.Terms.{Statement}
-use Rattle.rdf_terms.specs.Document.{Adds, AddsAll}
+use Rattle.rdf_terms.proofs.Common.{Text, AreDistinct, Statement, AddsAll, one_place, AddsAll-same, AreDistinct-AddsAll}
 use Rattle.rdf_terms.specs.declared.term.Term.{Term}
 use Rattle.rdf_terms.specs.declared.term.Term.TheVariants.{Blank}
 use Rattle.rdf_terms.specs.declared.term.Label.{Label}
 use Rattle.rdf_terms.specs.declared.term.Label.TheVariants.{Named}
-use Rattle.rdf_terms.proofs.Membership.{one_place}
 use Rattle.nquads_reader.specs.declared.quad.Resource.{Resource}
 use Rattle.nquads_reader.specs.declared.quad.Resource.TheVariants.{Iri, Label as LabelResource}
 use Rattle.nquads_reader.specs.declared.quad.Object.{Object}
@@ -16,7 +13,6 @@ use Rattle.nquads_reader.specs.declared.quad.Object.TheVariants.{Resource as Res
 use Rattle.nquads_reader.specs.declared.quad.StatedQuad.{StatedQuad}
 use Rattle.nquads_reader.specs.Document.{quads_in, AllState, mentioned, IsResourceTerm, IsObjectTerm, IsGraphNameTerm, IsStatementOf, AreRead}
 use Rattle.nquads_reader.proofs.LineTerms.{stated_same}
-use Rattle.rdf_terms.proofs.Added.{AreDistinct-AddsAll}
 
 pub state-same : (lines : List Text) (a b : List StatedQuad) → AllState lines a → AllState lines b → a ≡ b
 state-same [] a b h k = h ∙ sym k
@@ -24,19 +20,6 @@ state-same (line ∷ lines) a b h k =
     let one = stated_same line h.0 k.0 h.2.states k.2.states in
     let more = state-same lines h.1 k.1 h.4 k.4 in
     h.3 ∙ (λ i. quads_in (one i) ++ more i) ∙ sym k.3
-
-module _ {A : Type 0} where
-  adds-same : (old : List A) (x : A) (a b : List A) → Adds old x a → Adds old x b → a ≡ b
-  adds-same old x a b (inl h) (inl k) = h.0 ∙ sym k.0
-  adds-same old x a b (inl h) (inr k) = absurd (k.1 h.1)
-  adds-same old x a b (inr h) (inl k) = absurd (h.1 k.1)
-  adds-same old x a b (inr h) (inr k) = h.0 ∙ sym k.0
-
-  adds_all-same : (old xs a b : List A) → AddsAll old xs a → AddsAll old xs b → a ≡ b
-  adds_all-same old [] a b h k = h ∙ sym k
-  adds_all-same old (x ∷ xs) a b h k =
-      let next = adds-same old x h.0 k.0 h.1 k.1 in
-      adds_all-same k.0 xs a b (subst (λ o. AddsAll o xs a) next h.2) k.2
 
 -- ---- statements by labels that are distinct
 
@@ -77,8 +60,8 @@ module _ (labels : List Label) (distinct : AreDistinct labels) where
 pub AreRead-same : (lines : List Text) (labels other : List Label) (sts others : List Statement) → AreRead lines labels sts → AreRead lines other others → (labels ≡ other) × (sts ≡ others)
 AreRead-same lines labels other sts others h k =
     let stated = state-same lines h.stated k.stated h.faultless k.faultless in
-    let same : labels ≡ other = adds_all-same [] (flat_map mentioned k.stated) labels other (subst (λ qs. AddsAll [] (flat_map mentioned qs) labels) stated h.labels_are) k.labels_are in
+    let same : labels ≡ other = AddsAll-same [] (flat_map mentioned k.stated) labels other (subst (λ qs. AddsAll [] (flat_map mentioned qs) labels) stated h.labels_are) k.labels_are in
     let distinct = AreDistinct-AddsAll [] (flat_map mentioned k.stated) other k.labels_are tt in
     let numbers = subst (λ ls. AllZip (IsStatementOf ls) k.stated h.numbered) same (subst (λ qs. AllZip (IsStatementOf labels) qs h.numbered) stated h.numbers) in
     let numbered = statements-same other distinct k.stated h.numbered k.numbered numbers k.numbers in
-    (same, adds_all-same [] k.numbered sts others (subst (λ ns. AddsAll [] ns sts) numbered h.statements_are) k.statements_are)
+    (same, AddsAll-same [] k.numbered sts others (subst (λ ns. AddsAll [] ns sts) numbered h.statements_are) k.statements_are)

@@ -1,8 +1,7 @@
 -- What a reader holds of the bytes that came, when more of them come and when they end.
-use Rattle.std.proofs.Common.{◌≡◌, ◌≢◌, ℕ, zero, suc, ◌+◌, ◌-◌, ◌<◌, ◌≤◌, List, [], ◌∷◌, ◌++◌, Option, Some, All, length, take, slice_get, refl, ap, sym, subst, ◌∙◌, arith, append_assoc, append-nil, length-append}
+use Rattle.std.proofs.Common.{◌≡◌, ◌≢◌, ℕ, zero, suc, ◌+◌, ◌-◌, ◌<◌, ◌≤◌, List, [], ◌∷◌, ◌++◌, Some, All, length, take, slice_get, refl, ap, sym, subst, ◌∙◌, arith, append_assoc, length-append}
 use Rattle.std.proofs.lemmas.Option.{slice_get_within}
-use Rattle.rdf_terms.specs.Lists.{Text}
-use Rattle.rdf_terms.specs.Document.{Document, statements}
+use Rattle.rdf_terms.proofs.Common.{Text, Document, statements}
 use Rattle.nquads_reader.specs.Lines.{lines_of}
 use Rattle.nquads_reader.specs.Document.{IsNotUtf8, IsBad, HasRelativeIri, IsLeastFaulty, AllState, AreRead, IsNQuads, IsCauseOf}
 use Rattle.nquads_reader.specs.Reading.{IsFaultOf, fault_at}
@@ -59,7 +58,8 @@ first_cause bytes before TooManyQuads h = absurd h
 first_cause bytes before Memory h = absurd h
 
 -- the first line behind these has the fault
-first_at : (front : List Text) (line : Text) (more : List Text) (quads : List StatedQuad) → AllState front quads → (fault : LineFault) → fault ≢ NoMemory → IsFaultOf line fault → IsFirstFaultOf (front ++ line ∷ more) (length front) (fault_at (length front + 1) fault)
+first_at : (front : List Text) (line : Text) (more : List Text) (quads : List StatedQuad) → AllState front quads → (fault : LineFault) → fault ≢ NoMemory → IsFaultOf line fault
+    → IsFirstFaultOf (front ++ line ∷ more) (length front) (fault_at (length front + 1) fault)
 first_at front line more quads h NotUtf8 other fault = (refl, least_behind IsNotUtf8 front line more quads h fault)
 first_at front line more quads h BadLine other fault = (refl, least_behind IsBad front line more quads h fault)
 first_at front line more quads h RelativeIri other fault = (refl, least_behind HasRelativeIri front line more quads h fault)
@@ -101,7 +101,8 @@ module _ (bytes : Text) (draft : Document) (lines : ℕ) (tail : Text) (taken : 
     pub stops : (fault : LineFault) → fault ≢ NoMemory → StopsAt (ended_lines tail closed) fault draft new lines n → AreStopped (bytes ++ piece) new n (fault_at (n + 1) fault)
     stops fault other stop =
         let next = piece_cut bytes taken.ended tail taken.cut piece closed unended cut in
-        let read = subst (λ ls. StopsRead ls new n (fault_at (n + 1) fault)) (sym next.lines) (stops_read (lines_of taken.ended) (ended_lines tail closed) draft new lines n taken.counted taken.states fault other stop) in
+        let read = subst (λ ls. StopsRead ls new n (fault_at (n + 1) fault)) (sym next.lines)
+        (stops_read (lines_of taken.ended) (ended_lines tail closed) draft new lines n taken.counted taken.states fault other stop) in
         record {
           ended = next.now_ended;
           tail = tail_behind tail closed ++ unended;
@@ -114,7 +115,8 @@ module _ (bytes : Text) (draft : Document) (lines : ℕ) (tail : Text) (taken : 
 
   module _ (new : Document) (n : ℕ) where
     pub all_read : TakesLines (lines_of tail) draft new lines n → IsNQuads bytes new.labels (statements new)
-    all_read takes = subst (λ ls. AreRead ls new.labels (statements new)) (sym (lines_cut bytes taken.ended tail taken.cut)) (read_more (lines_of taken.ended) (lines_of tail) draft new lines n taken.states takes)
+    all_read takes =
+        subst (λ ls. AreRead ls new.labels (statements new)) (sym (lines_cut bytes taken.ended tail taken.cut)) (read_more (lines_of taken.ended) (lines_of tail) draft new lines n taken.states takes)
 
     pub last_stops : (fault : LineFault) → fault ≢ NoMemory → StopsAt (lines_of tail) fault draft new lines n → IsCauseOf bytes (fault_at (n + 1) fault)
     last_stops fault other stop =
@@ -135,10 +137,13 @@ module _ (bytes : Text) (draft : Document) (lines : ℕ) (fault : ReadFault) (st
         tail = tail_behind stopped.tail cut.0 ++ cut.1;
         cut = next.cut;
         first = subst (λ ls. IsFirstFaultOf ls lines fault) (sym next.lines) more.0;
-        states = subst (λ ls. AreRead ls draft.labels (statements draft)) (sym (ap (take lines) next.lines ∙ take_within (lines_of stopped.ended) (ended_lines stopped.tail cut.0) lines within)) stopped.states;
+        states =
+            subst (λ ls. AreRead ls draft.labels (statements draft)) (sym (ap (take lines) next.lines
+            ∙ take_within (lines_of stopped.ended) (ended_lines stopped.tail cut.0) lines within)) stopped.states;
       }
 
   pub stopped_cause : IsCauseOf bytes fault
   stopped_cause =
       first_cause bytes lines fault
-      (subst (λ ls. IsFirstFaultOf ls lines fault) (sym (lines_cut bytes stopped.ended stopped.tail stopped.cut)) (first_more (lines_of stopped.ended) (lines_of stopped.tail) lines fault stopped.first).0)
+      (subst (λ ls. IsFirstFaultOf ls lines fault) (sym (lines_cut bytes stopped.ended stopped.tail stopped.cut))
+      (first_more (lines_of stopped.ended) (lines_of stopped.tail) lines fault stopped.first).0)

@@ -3,23 +3,14 @@ use Rattle.std.proofs.Common.{◌≡◌, ℕ, ◌<◌, List, [], ◌∷◌, inl,
 use Rattle.std.specs.List.{flat_map}
 use Rattle.std.proofs.lemmas.List.{get_or-map, length-map}
 use Rattle.std.proofs.lemmas.Option.{slice_get-get_or}
-use Rattle.rdf_terms.specs.Lists.{In, AreDistinct, numbers_below}
-use Rattle.rdf_terms.specs.Terms.{Statement, IsValidStatement}
-use Rattle.rdf_terms.specs.Document.{AddsAll}
-use Rattle.rdf_terms.specs.Dataset.{IsUsed}
-use Rattle.rdf_terms.specs.Isomorphism.{Relabelling}
-use Rattle.rdf_terms.specs.CanonicalForm.{Naming}
+use Rattle.rdf_terms.proofs.Common.{In, AreDistinct, numbers_below, Statement, IsValidStatement, AddsAll, IsUsed, Relabelling, Naming, In-map, from_In-map, from_In-numbers_below, AreDistinct-numbers_below, get_or-numbers_below, In-numbers_below, each-from_All, In-flat_map, from_In-flat_map, AreDistinct-AddsAll, from_In-AddsAll, In-AddsAll}
 use Rattle.rdf_terms.specs.declared.term.Label.{Label}
-use Rattle.rdf_terms.proofs.Membership.{In-append, In-append_left, In-append_right, In-map, from_In-map}
-use Rattle.rdf_terms.proofs.Ranks.{from_In-numbers_below, AreDistinct-numbers_below, get_or-numbers_below, length-numbers_below, In-numbers_below}
 use Rattle.canonical_writer.specs.Determined.{ListsNodes}
 use Rattle.canonical_writer.proofs.Partners.{partner, partner-at, partners, length-listed}
 use Rattle.canonical_writer.proofs.Placing.{place-found, place-here}
 use Rattle.nquads_reader.specs.Document.{mentioned}
 use Rattle.nquads_reader.proofs.WrittenQuads.{written_quad}
 use Rattle.nquads_reader.proofs.WrittenLabels.{name_label, IsName, quad_name, quad_label}
-use Rattle.rdf_terms.proofs.MadeLists.{each-from_All, In-get_or, In-flat_map, from_In-flat_map}
-use Rattle.rdf_terms.proofs.Added.{AreDistinct-AddsAll, from_In-AddsAll, In-AddsAll}
 
 -- each node goes to the number of the label that is its name
 pub record NumbersNodes (ν : Naming) (nodes : ℕ) (labels : List Label) : Type 0 where

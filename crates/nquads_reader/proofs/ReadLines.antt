@@ -1,20 +1,16 @@
 -- Lines are read one after the other, and blocks of lines.
-use Rattle.std.proofs.Common.{◌≡◌, ◌≢◌, ℕ, zero, suc, ◌+◌, ◌-◌, ◌*◌, ◌<◌, ◌≤◌, List, [], ◌∷◌, ◌++◌, Option, Some, All, length, take, slice_get, refl, ap, sym, subst, ◌∙◌, arith, append_assoc, append-nil, length-append, add_assoc}
+use Rattle.std.proofs.Common.{◌≡◌, ℕ, ◌+◌, ◌-◌, List, [], ◌∷◌, ◌++◌, Option, Some, All, length, take, slice_get, refl, ap, sym, subst, ◌∙◌, arith, append_assoc, append-nil, length-append}
 use Rattle.std.specs.List.{flat_map}
 use Rattle.std.proofs.lemmas.Grind.{flat_map-append}
-use Rattle.std.proofs.lemmas.List.Elements.{All-nil, All-cons, All-append}
-use Rattle.rdf_terms.specs.Lists.{Text}
-use Rattle.rdf_terms.specs.Terms.{Statement}
-use Rattle.rdf_terms.specs.Document.{Document, statements}
-use Rattle.rdf_terms.specs.declared.term.Label.{Label}
+use Rattle.std.proofs.lemmas.List.Elements.{All-nil, All-cons}
+use Rattle.rdf_terms.proofs.Common.{Text, Document, statements, AddsAll-append, AddsAll-extends}
 use Rattle.nquads_reader.specs.declared.quad.StatedQuad.{StatedQuad}
-use Rattle.nquads_reader.specs.Lines.{lines_of, onto_first}
+use Rattle.nquads_reader.specs.Lines.{lines_of}
 use Rattle.nquads_reader.specs.declared.fault.LineFault.{LineFault}
-use Rattle.nquads_reader.specs.declared.fault.LineFault.TheVariants.{NotUtf8, BadLine, RelativeIri, NoMemory}
 use Rattle.nquads_reader.specs.Document.{IsFaultless, IsLeastFaulty, quads_in, AllState, mentioned, IsStatementOf, AreRead}
-use Rattle.nquads_reader.specs.Reading.{IsFaultOf, Appends, IsBlock, TakesQuads}
+use Rattle.nquads_reader.specs.Reading.{Appends, IsBlock, TakesQuads}
 use Rattle.nquads_reader.specs.Feeding.{TakesLines, StopsAt}
-use Rattle.nquads_reader.proofs.Numbering.{AddsAll-append, AddsAll-extends, statements_kept}
+use Rattle.nquads_reader.proofs.Numbering.{statements_kept}
 use Rattle.nquads_reader.proofs.ManyQuads.{AllZip-append}
 
 -- ---- lines
@@ -45,9 +41,6 @@ no_lines [] h = refl
 no_lines (c ∷ cs) h = absurd (omega arith)
 
 -- ---- what lines add to a document
-
-pub takes_nothing : (d : Document) (n : ℕ) → TakesLines [] d d n n
-takes_nothing d n = record { quads = []; states = refl; takes = record { numbered = []; labels = refl; numbers = tt; adds = refl }; counted = omega arith }
 
 takes_both : (more others : List StatedQuad) (a b c : Document) → TakesQuads more a b → TakesQuads others b c → TakesQuads (more ++ others) a c
 takes_both more others a b c h k =
@@ -98,7 +91,8 @@ stops_before xs ys fault a c m p k = record {
 pub behind_block : (lines behind passed more rest : List Text) → lines ≡ passed ++ behind → behind ≡ more ++ rest → lines ≡ (passed ++ more) ++ rest
 behind_block lines behind passed more rest h k = h ∙ ap (λ ls. passed ++ ls) k ∙ sym (append_assoc passed more rest)
 
-pub block_taken : (bytes : Text) (quads : List StatedQuad) (n : ℕ) (rest : Text) (old new : Document) (before : ℕ) → (block : IsBlock bytes quads n rest) → TakesQuads quads old new → TakesLines block.passed old new before (before + n)
+pub block_taken : (bytes : Text) (quads : List StatedQuad) (n : ℕ) (rest : Text) (old new : Document) (before : ℕ) → (block : IsBlock bytes quads n rest) → TakesQuads quads old new
+    → TakesLines block.passed old new before (before + n)
 block_taken bytes quads n rest old new before block takes = record { quads = quads; states = block.states; takes = takes; counted = ap (λ i. before + i) block.counted }
 
 -- what was read, and lines behind it
@@ -124,7 +118,8 @@ at_front : (front : List Text) (line : Text) (more : List Text) → slice_get (f
 at_front [] line more = refl
 at_front (l ∷ ls) line more = at_front ls line more
 
-pub least_behind : (HasFault : Text → Type 0) (front : List Text) (line : Text) (more : List Text) (quads : List StatedQuad) → AllState front quads → HasFault line → IsLeastFaulty HasFault (front ++ line ∷ more) (length front + 1)
+pub least_behind : (HasFault : Text → Type 0) (front : List Text) (line : Text) (more : List Text) (quads : List StatedQuad) → AllState front quads → HasFault line
+    → IsLeastFaulty HasFault (front ++ line ∷ more) (length front + 1)
 least_behind HasFault front line more quads h fault =
     let same : length front + 1 - 1 ≡ length front = omega arith in
     record {

@@ -2,9 +2,7 @@
 use Rattle.std.proofs.Common.{◌≡◌, ℕ, ◌<◌, List, [], ◌∷◌, Option, Some, None, IfSome, All, map, slice_get, refl}
 use Rattle.std.specs.List.{AllZip}
 use Rattle.std.proofs.lemmas.List.Elements.{All-head, All-tail}
-use Rattle.rdf_terms.specs.Terms.{Statement, IsIri, IsIriOrBlank, IsValidTerm, IsValidStatement}
-use Rattle.rdf_terms.specs.Isomorphism.{relabel_term, relabel_graph_name, relabel_statement}
-use Rattle.rdf_terms.specs.CanonicalForm.{Naming}
+use Rattle.rdf_terms.proofs.Common.{Statement, IsIri, IsIriOrBlank, IsValidTerm, IsValidStatement, relabel_term, relabel_graph_name, relabel_statement, Naming}
 use Rattle.rdf_terms.specs.declared.term.Term.{Term}
 use Rattle.rdf_terms.specs.declared.term.Term.TheVariants.{Iri as IriTerm, Blank, Literal as LiteralTerm}
 use Rattle.rdf_terms.specs.declared.term.Label.{Label}

@@ -2,8 +2,7 @@
 use Rattle.std.proofs.Common.{◌≡◌, ◌∙◌, ◌+◌, ◌*◌, ◌≤◌, List, [], ◌∷◌, ◌++◌, Option, Some, None, inl, inr, length, ap, arith, length-append}
 use Rattle.std.specs.List.{flat_map}
 use Rattle.std.proofs.lemmas.Slice.Zip.{AllZip-long}
-use Rattle.rdf_terms.specs.Lists.{Text}
-use Rattle.rdf_terms.specs.Document.{Document, Adds, AddsAll, statements}
+use Rattle.rdf_terms.proofs.Common.{Text, Document, AddsAll, statements, length-adds}
 use Rattle.rdf_terms.specs.declared.term.Label.{Label as NodeLabel}
 use Rattle.rdf_terms.specs.declared.term.LiteralKind.{LiteralKind}
 use Rattle.rdf_terms.specs.declared.term.LiteralKind.TheVariants.{Typed, Tagged}
@@ -16,7 +15,6 @@ use Rattle.nquads_reader.specs.Grammar.{IsWhiteThen, BeginsWithResource, BeginsW
 use Rattle.nquads_reader.specs.Document.{IsFaultless, quads_in, labels_of_resource, labels_of_object, labels_of_graph_name, mentioned, IsStatementOf}
 use Rattle.nquads_reader.specs.Reading.{Appends, TakesQuads}
 use Rattle.nquads_reader.proofs.TerminalFacts.{iri_room, label_room, string_room, tag_room}
-use Rattle.rdf_terms.proofs.Membership.{length-adds}
 
 white_room : (text rest : Text) → IsWhiteThen text rest → length rest ≤ length text
 white_room text rest w = omega (arith, ap length w.spelled, length-append w.white rest)
@@ -32,7 +30,8 @@ suffix_room text (Tagged tag) rest h = omega (arith, tag_room text tag rest h)
 
 object_room : (text : Text) (o : Object) (rest : Text) → BeginsWithObject text o rest → 2 + length rest ≤ length text
 object_room text (ResourceObject r) rest h = resource_room text r rest h
-object_room text (LiteralObject l) rest h = omega (arith, string_room text l.lexical h.lexical.after h.lexical.begins, white_room h.lexical.after h.at_suffix h.lexical.white, suffix_room h.at_suffix l.kind rest h.suffix)
+object_room text (LiteralObject l) rest h =
+    omega (arith, string_room text l.lexical h.lexical.after h.lexical.begins, white_room h.lexical.after h.at_suffix h.lexical.white, suffix_room h.at_suffix l.kind rest h.suffix)
 
 graph_name_room : (text : Text) (g : Option Resource) (rest : Text) → BeginsWithGraphName text g rest → length rest ≤ length text
 graph_name_room text None rest h = omega (arith, ap length h.0)

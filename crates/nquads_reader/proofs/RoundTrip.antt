@@ -1,30 +1,20 @@
 -- A written text is a document, and what is read of it is the dataset again.
 use Rattle.std.proofs.Common.{ℕ, ◌<◌, List, [], All, map, refl, sym, ap, subst, ◌∙◌}
 use Rattle.std.specs.List.{flat_map}
-use Rattle.rdf_terms.specs.Lists.{In, AreDistinct, joined, sorted}
-use Rattle.rdf_terms.specs.Terms.{Statement, IsValidStatement}
-use Rattle.rdf_terms.specs.Document.{AddsAll}
-use Rattle.rdf_terms.specs.Dataset.{Dataset, IsValid, IsUsed}
-use Rattle.rdf_terms.specs.Isomorphism.{Relabelling, relabel_statement}
-use Rattle.rdf_terms.specs.CanonicalForm.{Naming, canonical_line, canonical_nquads}
+use Rattle.rdf_terms.proofs.Common.{In, AreDistinct, joined, sorted, Statement, IsValidStatement, AddsAll, Dataset, IsValid, IsUsed, Relabelling, relabel_statement, Naming, canonical_line, canonical_nquads, In-Permutes, Permutes-sym, Permutes-map, AreDistinct-Permutes, labels_tell, sorted-permutes, add_all, AddsAll-AreDistinct, All-from_each, each-from_All, AreDistinct-map}
 use Rattle.rdf_terms.specs.declared.term.Label.{Label}
 use Rattle.rdf_terms.proofs.Finishing.{relabel_statement-injective}
-use Rattle.rdf_terms.proofs.Permutations.{In-Permutes, Permutes-sym, Permutes-map, AreDistinct-Permutes}
-use Rattle.rdf_terms.proofs.SameTerm.{labels_tell}
-use Rattle.rdf_terms.proofs.SortedTexts.{sorted-permutes}
 use Rattle.canonical_writer.proofs.Matching.{Unmapped, unmapped}
 use Rattle.nquads_reader.specs.Lines.{lines_of}
 use Rattle.nquads_reader.specs.Document.{AllState, mentioned, IsNQuads}
 use Rattle.nquads_reader.specs.RoundTrip.{IsNumbered, ReadsBack}
 use Rattle.nquads_reader.specs.declared.quad.StatedQuad.{StatedQuad}
-use Rattle.nquads_reader.proofs.Adding.{add_all, AddsAll-AreDistinct}
 use Rattle.nquads_reader.proofs.OneReading.{AreRead-same}
 use Rattle.nquads_reader.proofs.ReadLabels.{NumbersNodes, numbering}
 use Rattle.nquads_reader.proofs.WrittenQuads.{written_quad}
 use Rattle.nquads_reader.proofs.WrittenLines.{lines_state}
 use Rattle.nquads_reader.proofs.NumberedNames.{plain_names, no_empty_name, own_names}
 use Rattle.nquads_reader.proofs.ReadStatements.{statements_moved}
-use Rattle.rdf_terms.proofs.MadeLists.{All-from_each, each-from_All, AreDistinct-map}
 
 module _ (D : Dataset) (ν : Naming) (v : IsValid D) (numbered : IsNumbered D.nodes ν) where
   -- the statements in the order of their lines

@@ -1,12 +1,11 @@
 -- Where bytes are split behind their last line end, and what their last byte is.
-use Rattle.std.proofs.Common.{◌≡◌, ℕ, zero, suc, ◌+◌, ◌-◌, ◌<◌, ◌≤◌, Bool, true, false, ◌==◌, List, [], ◌∷◌, ◌++◌, Option, Some, All, length, take, drop, get_or, slice_get, refl, sym, ap, subst, ◌∙◌, arith, add-one, length-drop}
+use Rattle.std.proofs.Common.{◌≡◌, ℕ, zero, suc, ◌+◌, ◌-◌, ◌<◌, ◌≤◌, true, false, ◌==◌, [], ◌∷◌, ◌++◌, Some, length, take, drop, get_or, slice_get, sym, ap, subst, ◌∙◌, arith, add-one, length-drop}
 use Rattle.std.proofs.lemmas.List.{get_or-drop, take-append-drop}
 use Rattle.std.proofs.lemmas.List.Elements.{All-from_get_or}
 use Rattle.std.proofs.lemmas.Bool.{false_from_ne_true}
-use Rattle.rdf_terms.specs.Lists.{Text}
+use Rattle.rdf_terms.proofs.Common.{Text, rest_all}
 use Rattle.nquads_reader.specs.Pieces.{is_line_end, IsEnded, ends_with_cr, IsCut}
 use Rattle.nquads_reader.proofs.Cuts.{ends_with_cr-append}
-use Rattle.rdf_terms.proofs.MadeLists.{rest_all}
 
 -- ---- the last line end
 
@@ -16,7 +15,8 @@ ended_at (c ∷ cs) zero less h = h
 ended_at (c ∷ []) (suc n) less h = absurd (omega arith)
 ended_at (c ∷ (d ∷ ds)) (suc n) less h = ended_at (d ∷ ds) n (omega arith) h
 
-pub cut_at : (bytes : Text) (n : ℕ) → n < length bytes → is_line_end (get_or bytes n 0) ≡ true → ((k : ℕ) → n + 1 ≤ k → k < length bytes → ¬ (is_line_end (get_or bytes k 0) ≡ true)) → IsCut bytes (take (n + 1) bytes) (take (length bytes - (n + 1)) (drop (n + 1) bytes))
+pub cut_at : (bytes : Text) (n : ℕ) → n < length bytes → is_line_end (get_or bytes n 0) ≡ true → ((k : ℕ) → n + 1 ≤ k → k < length bytes → ¬ (is_line_end (get_or bytes k 0) ≡ true))
+    → IsCut bytes (take (n + 1) bytes) (take (length bytes - (n + 1)) (drop (n + 1) bytes))
 cut_at bytes n less here after =
     let behind : (k : ℕ) → k < length (drop (n + 1) bytes) → is_line_end (get_or (drop (n + 1) bytes) k 0) ≡ false =
     λ k within. subst (λ c. is_line_end c ≡ false) (sym (get_or-drop (n + 1) bytes k 0))

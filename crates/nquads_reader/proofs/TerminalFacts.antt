@@ -14,7 +14,8 @@ use Rattle.terminals.proofs.Facts.{same_reading, iri_one_value, string_one_value
 ascii_front : (c : ℕ) (cs : Characters) → c < 128 → encode_utf8_all (c ∷ cs) ≡ c ∷ encode_utf8_all cs
 ascii_front c cs below = ap (λ f. f ++ encode_utf8_all cs) (encode_ascii c below)
 
-mark_first : (T : Characters → Characters → Type 0) (mark : ℕ) → mark < 128 → ((spelled value : Characters) → T spelled value → (more : Characters) × (spelled ≡ mark ∷ more)) → (text v r : Text) → TextBeginsWith T text v r → (more : Text) × (text ≡ mark ∷ more)
+mark_first : (T : Characters → Characters → Type 0) (mark : ℕ) → mark < 128 → ((spelled value : Characters) → T spelled value → (more : Characters) × (spelled ≡ mark ∷ more)) → (text v r : Text)
+    → TextBeginsWith T text v r → (more : Text) × (text ≡ mark ∷ more)
 mark_first T mark below front text v r h =
     let f = front h.begins.spelled h.value_characters h.begins.fits in
     (encode_utf8_all (f.0 ++ h.rest_characters), h.text_is ∙ ap encode_utf8_all (h.begins.splits ∙ ap (λ s. s ++ h.rest_characters) f.1) ∙ ascii_front mark (f.0 ++ h.rest_characters) below)
@@ -33,10 +34,18 @@ tag_begins text v r h = mark_first LangTag 64 (omega arith) (λ spelled value f.
 
 -- ---- how much is spelled
 
-spelled_room : (T : Characters → Characters → Type 0) (n : ℕ) → ((spelled value : Characters) → T spelled value → n ≤ length spelled) → (text v r : Text) → TextBeginsWith T text v r → n + length r ≤ length text
+spelled_room : (T : Characters → Characters → Type 0) (n : ℕ) → ((spelled value : Characters) → T spelled value → n ≤ length spelled) → (text v r : Text) → TextBeginsWith T text v r
+    → n + length r ≤ length text
 spelled_room T n least text v r h =
     let whole : text ≡ encode_utf8_all h.begins.spelled ++ encode_utf8_all h.rest_characters = h.text_is ∙ ap encode_utf8_all h.begins.splits ∙ encodes-append h.begins.spelled h.rest_characters in
-    omega (arith, ap length whole, length-append (encode_utf8_all h.begins.spelled) (encode_utf8_all h.rest_characters), ap length h.rest_is, length-le-encodes h.begins.spelled, least h.begins.spelled h.value_characters h.begins.fits)
+    omega (
+      arith,
+      ap length whole,
+      length-append (encode_utf8_all h.begins.spelled) (encode_utf8_all h.rest_characters),
+      ap length h.rest_is,
+      length-le-encodes h.begins.spelled,
+      least h.begins.spelled h.value_characters h.begins.fits,
+    )
 
 pub iri_room : (text v r : Text) → TextBeginsWith IriRef text v r → 2 + length r ≤ length text
 iri_room text v r h = spelled_room IriRef 2 (λ spelled value f. omega (arith, ap length f.marks, length-append f.inner (62 ∷ []))) text v r h

@@ -1,10 +1,7 @@
 -- Each node of a document that was read stands in a quad.
-use Rattle.std.proofs.Common.{◌≡◌, ℕ, zero, suc, ◌<◌, Bool, true, false, ◌||◌, List, [], ◌∷◌, ◌++◌, inl, inr, ◌⊎◌, Option, Some, None, length, slice_get, refl, ap, sym, subst, ◌∙◌, arith, eqb, eq-eqb}
+use Rattle.std.proofs.Common.{◌≡◌, ℕ, ◌<◌, true, ◌||◌, List, [], ◌∷◌, ◌++◌, inl, inr, Option, Some, None, length, slice_get, refl, ap, sym, subst, ◌∙◌, eqb, eq-eqb}
 use Rattle.std.specs.List.{flat_map, AllZip}
-use Rattle.rdf_terms.specs.Lists.{Text, In, AreDistinct}
-use Rattle.rdf_terms.specs.Terms.{Statement}
-use Rattle.rdf_terms.specs.Dataset.{is_node, is_named_by, mentions, IsUsed}
-use Rattle.rdf_terms.specs.Document.{AddsAll, label_at}
+use Rattle.rdf_terms.proofs.Common.{Text, In, AreDistinct, Statement, is_node, is_named_by, mentions, IsUsed, label_at, In-append, one_place, In-get_or, In-AddsAll, from_In-AddsAll, AreDistinct-AddsAll}
 use Rattle.rdf_terms.specs.declared.term.Term.{Term}
 use Rattle.rdf_terms.specs.declared.term.Label.{Label}
 use Rattle.nquads_reader.specs.declared.quad.Resource.{Resource}
@@ -13,9 +10,6 @@ use Rattle.nquads_reader.specs.declared.quad.Object.{Object}
 use Rattle.nquads_reader.specs.declared.quad.Object.TheVariants.{Resource as ResourceObject, Literal as LiteralObject}
 use Rattle.nquads_reader.specs.declared.quad.StatedQuad.{StatedQuad}
 use Rattle.nquads_reader.specs.Document.{IsResourceTerm, IsObjectTerm, IsGraphNameTerm, IsStatementOf, AreRead, labels_of_resource, labels_of_object, labels_of_graph_name, mentioned}
-use Rattle.rdf_terms.proofs.Membership.{In-append, one_place}
-use Rattle.rdf_terms.proofs.MadeLists.{In-get_or}
-use Rattle.rdf_terms.proofs.Added.{In-AddsAll, from_In-AddsAll, AreDistinct-AddsAll}
 use Rattle.std.proofs.lemmas.Bool.{or_left, or_right}
 use Rattle.std.proofs.lemmas.Option.{slice_get-get_or}
 use Rattle.rdf_terms.specs.declared.term.Label.TheVariants.{Anonymous}

@@ -1,5 +1,5 @@
 -- The texts of what faultless lines state are valid.
-use Rattle.std.proofs.Common.{◌≡◌, ℕ, ◌<◌, Bool, true, false, not, nat_lt, List, [], ◌∷◌, Option, Some, None, IfSome, All, inl, inr, sym, subst, refl, true≢false}
+use Rattle.std.proofs.Common.{◌≡◌, ◌<◌, true, false, not, nat_lt, List, [], ◌∷◌, Option, Some, None, IfSome, All, inl, inr, sym, subst, refl}
 use Rattle.std.specs.List.{list_all}
 use Rattle.std.specs.Str.{IsUtf8}
 use Rattle.std.proofs.lemmas.Bool.{ltb-true, not-true}
@@ -7,9 +7,7 @@ use Rattle.std.proofs.lemmas.Str.{IsUtf8-from_ascii}
 use Rattle.std.proofs.lemmas.Str.Ascii.{IsAscii-from_all}
 use Rattle.std.proofs.lemmas.List.Elements.{All-weaker, All-nil, All-cons, All-append}
 use Rattle.std.proofs.lemmas.List.Sums.{AllPass-from_list_all}
-use Rattle.rdf_terms.specs.Lists.{Text}
-use Rattle.rdf_terms.specs.Terms.{HasScheme, is_excluded, IsAbsoluteIri, IsValidKind}
-use Rattle.rdf_terms.specs.CanonicalForm.{xsd_string}
+use Rattle.rdf_terms.proofs.Common.{Text, HasScheme, is_excluded, IsAbsoluteIri, IsValidKind, xsd_string}
 use Rattle.rdf_terms.specs.declared.term.LiteralKind.{LiteralKind}
 use Rattle.rdf_terms.specs.declared.term.LiteralKind.TheVariants.{Typed, Tagged}
 use Rattle.nquads_reader.specs.declared.quad.Resource.{Resource}
@@ -34,7 +32,8 @@ xsd_allowed =
 xsd_utf8 : IsUtf8 xsd_string
 xsd_utf8 =
     let tested : list_all (λ c. nat_lt c 128) xsd_string ≡ true = refl in
-    IsUtf8-from_ascii xsd_string (IsAscii-from_all xsd_string (All-weaker (λ c. nat_lt c 128 ≡ true) (λ c. c < 128) (λ c h. ltb-true c 128 h) xsd_string (AllPass-from_list_all (λ c. nat_lt c 128) xsd_string tested)))
+    IsUtf8-from_ascii xsd_string (IsAscii-from_all xsd_string (All-weaker (λ c. nat_lt c 128 ≡ true) (λ c. c < 128) (λ c h. ltb-true c 128 h) xsd_string
+    (AllPass-from_list_all (λ c. nat_lt c 128) xsd_string tested)))
 
 resource_valid : (text : Text) (r : Resource) (rest : Text) → BeginsWithResource text r rest → IsAbsoluteResource r → IsValidResource r
 resource_valid text (Iri iri) rest h scheme = iri_valid text iri rest h scheme

@@ -1,16 +1,12 @@
 -- The labels of what a canonical line states are the names of the nodes that its statement mentions.
 use Rattle.std.proofs.Common.{◌≡◌, ℕ, ◌<◌, true, [], ◌∷◌, ◌++◌, inl, inr, Option, Some, None, IfSome, sym, ap, true≢false}
 use Rattle.std.proofs.lemmas.Bool.{eqb-true}
-use Rattle.rdf_terms.specs.Lists.{In}
-use Rattle.rdf_terms.specs.Terms.{Statement, IsValidTerm, IsValidStatement}
-use Rattle.rdf_terms.specs.Dataset.{is_node, is_named_by, mentions}
-use Rattle.rdf_terms.specs.CanonicalForm.{Naming}
+use Rattle.rdf_terms.proofs.Common.{In, Statement, IsValidTerm, IsValidStatement, is_node, is_named_by, mentions, Naming, In-append, In-append_left, In-append_right}
 use Rattle.rdf_terms.specs.declared.term.Term.{Term}
 use Rattle.rdf_terms.specs.declared.term.Term.TheVariants.{Iri as IriTerm, Blank, Literal as LiteralTerm}
 use Rattle.rdf_terms.specs.declared.term.Label.{Label}
 use Rattle.rdf_terms.specs.declared.term.Label.TheVariants.{Named}
 use Rattle.rdf_terms.proofs.Finishing.{one_of}
-use Rattle.rdf_terms.proofs.Membership.{In-append, In-append_left, In-append_right}
 use Rattle.nquads_reader.specs.Document.{labels_of_resource, labels_of_object, labels_of_graph_name, mentioned}
 use Rattle.nquads_reader.proofs.WrittenQuads.{written_resource, written_object, written_graph_name, written_quad}
 
@@ -45,7 +41,8 @@ module _ (ν : Naming) where
 
     pub quad_name : (st : Statement) → IsValidStatement nodes st → In l (mentioned (written_quad ν st)) → IsName
     quad_name st v i =
-        elim (In-append (labels_of_resource (written_resource ν st.subject)) (labels_of_object (written_object ν st.object) ++ labels_of_graph_name (written_graph_name ν st.graph_name)) l i) as (λ _. IsName) [
+        elim (In-append (labels_of_resource (written_resource ν st.subject)) (labels_of_object (written_object ν st.object) ++ labels_of_graph_name (written_graph_name ν st.graph_name)) l i) as
+        (λ _. IsName) [
           | inl s ↦ resource_name st.subject v.subject s
           | inr more ↦ elim (In-append (labels_of_object (written_object ν st.object)) (labels_of_graph_name (written_graph_name ν st.graph_name)) l more) as (λ _. IsName) [
             | inl o ↦ object_name st.object v.object o

@@ -2,9 +2,7 @@
 use Rattle.std.proofs.Common.{◌≡◌, ℕ, ◌≤◌, List, [], ◌∷◌, ◌++◌, All, Some, map, refl, sym, ap, subst, ◌∙◌, arith, append_assoc}
 use Rattle.std.proofs.lemmas.Bool.{ne_eqb}
 use Rattle.std.proofs.lemmas.List.Elements.{All-head, All-tail}
-use Rattle.rdf_terms.specs.Lists.{Text, joined}
-use Rattle.rdf_terms.specs.Terms.{Statement, IsValidStatement}
-use Rattle.rdf_terms.specs.CanonicalForm.{Naming, canonical_term, canonical_graph_name, canonical_line}
+use Rattle.rdf_terms.proofs.Common.{Text, joined, Statement, IsValidStatement, Naming, canonical_term, canonical_graph_name, canonical_line}
 use Rattle.canonical_writer.specs.Determined.{HasPlainNames}
 use Rattle.canonical_writer.proofs.LineTexts.{line_body, canonical_line-body, line_body-printable}
 use Rattle.nquads_reader.specs.Lines.{lines_of, onto_first}

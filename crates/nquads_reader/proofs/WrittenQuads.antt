@@ -1,13 +1,11 @@
 -- What the canonical line of a statement states.
 use Rattle.std.proofs.Common.{ℕ, [], Option, Some, None, IfSome}
-use Rattle.rdf_terms.specs.Lists.{Text}
-use Rattle.rdf_terms.specs.Terms.{Statement, HasScheme, IsIri, IsIriOrBlank, IsValidKind, IsValidTerm, IsValidStatement}
-use Rattle.rdf_terms.specs.CanonicalForm.{Naming}
+use Rattle.rdf_terms.proofs.Common.{Text, Statement, HasScheme, IsIri, IsIriOrBlank, IsValidKind, IsValidTerm, IsValidStatement, Naming}
 use Rattle.rdf_terms.specs.declared.term.Term.{Term}
 use Rattle.rdf_terms.specs.declared.term.Term.TheVariants.{Iri as IriTerm, Blank, Literal as LiteralTerm}
 use Rattle.rdf_terms.specs.declared.term.LiteralKind.{LiteralKind}
 use Rattle.rdf_terms.specs.declared.term.LiteralKind.TheVariants.{Typed, Tagged}
-use Rattle.nquads_reader.specs.Document.{IsAbsoluteResource, IsAbsoluteKind, IsAbsoluteObject, IsAbsolute}
+use Rattle.nquads_reader.specs.Document.{IsAbsoluteResource, IsAbsoluteKind, IsAbsoluteObject, HasAbsoluteIris}
 use Rattle.nquads_reader.specs.declared.quad.Resource.{Resource}
 use Rattle.nquads_reader.specs.declared.quad.Resource.TheVariants.{Iri, Label}
 use Rattle.nquads_reader.specs.declared.quad.Object.{Object}
@@ -68,7 +66,7 @@ module _ (ν : Naming) (nodes : ℕ) where
   predicate_scheme (Blank n) k v = absurd k
   predicate_scheme (LiteralTerm l) k v = absurd k
 
-  pub quad_absolute : (st : Statement) → IsValidStatement nodes st → IsAbsolute (written_quad ν st)
+  pub quad_absolute : (st : Statement) → IsValidStatement nodes st → HasAbsoluteIris (written_quad ν st)
   quad_absolute st v = record {
     subject = resource_absolute st.subject v.subject_kind v.subject;
     predicate = predicate_scheme st.predicate v.predicate_kind v.predicate;

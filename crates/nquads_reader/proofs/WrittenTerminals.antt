@@ -8,9 +8,7 @@ use Rattle.std.proofs.lemmas.Bool.{and_parts, cases_lt}
 use Rattle.std.proofs.lemmas.List.Elements.{All-cons, All-head, All-tail}
 use Rattle.std.proofs.lemmas.Str.{encode_ascii, encodes-append, encodes-IsAscii}
 use Rattle.std.proofs.lemmas.Str.Ascii.{IsAscii-cons, IsAscii-from_all}
-use Rattle.rdf_terms.specs.Lists.{Text}
-use Rattle.rdf_terms.specs.Terms.{is_excluded, IsAbsoluteIri, IsLanguageTag}
-use Rattle.rdf_terms.specs.CanonicalForm.{escaped}
+use Rattle.rdf_terms.proofs.Common.{Text, is_excluded, IsAbsoluteIri, IsLanguageTag, escaped}
 use Rattle.terminals.specs.Terminal.{Characters}
 use Rattle.terminals.specs.Spellings.{stands_for_itself, Spells}
 use Rattle.terminals.specs.Terminals.{BlankNodeLabel, LangTag}

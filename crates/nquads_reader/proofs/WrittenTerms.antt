@@ -6,9 +6,7 @@ use Rattle.std.proofs.lemmas.Bool.{and_from}
 use Rattle.std.proofs.lemmas.List.Elements.{All-nil, All-cons}
 use Rattle.std.proofs.lemmas.Str.{IsUtf8-append, IsUtf8-nil, IsUtf8-from_ascii}
 use Rattle.std.proofs.lemmas.Str.Ascii.{IsAscii-from_all}
-use Rattle.rdf_terms.specs.Lists.{Text}
-use Rattle.rdf_terms.specs.Terms.{IsIri, IsIriOrBlank, IsAbsoluteIri, IsValidKind, IsValidTerm}
-use Rattle.rdf_terms.specs.CanonicalForm.{Naming, escaped, canonical_suffix, canonical_term, canonical_graph_name}
+use Rattle.rdf_terms.proofs.Common.{Text, IsIri, IsIriOrBlank, IsAbsoluteIri, IsValidKind, IsValidTerm, Naming, escaped, canonical_suffix, canonical_term, canonical_graph_name}
 use Rattle.rdf_terms.specs.declared.term.Term.{Term}
 use Rattle.rdf_terms.specs.declared.term.Term.TheVariants.{Iri as IriTerm, Blank, Literal as LiteralTerm}
 use Rattle.rdf_terms.specs.declared.term.Literal.{Literal}
@@ -18,7 +16,7 @@ use Rattle.terminals.proofs.Facts.{ascii_scalar}
 use Rattle.terminals.proofs.Tagging.{alphanumeric_ascii, tag_ascii}
 use Rattle.canonical_writer.specs.Determined.{HasPlainNames}
 use Rattle.canonical_writer.proofs.TermTexts.{Suffix, of_string, of_type, of_tag, suffix_of, type_regrouped, iri_regrouped, string_regrouped}
-use Rattle.nquads_reader.specs.Grammar.{is_white, BeginsWithNoWhite, IsWhiteThen, IsSpaced, BeginsWithIri, BeginsWithResource, BeginsWithNoSuffix, BeginsWithSuffix, BeginsWithObject, BeginsWithGraphName}
+use Rattle.nquads_reader.specs.Grammar.{is_space_or_tab, BeginsWithNoWhite, IsWhiteThen, IsSpaced, BeginsWithIri, BeginsWithResource, BeginsWithNoSuffix, BeginsWithSuffix, BeginsWithObject, BeginsWithGraphName}
 use Rattle.nquads_reader.specs.declared.quad.Object.TheVariants.{Literal as LiteralObject}
 use Rattle.nquads_reader.proofs.WrittenTerminals.{iri_reads, string_reads, string-utf8, tag_reads, label_reads}
 use Rattle.nquads_reader.proofs.WrittenQuads.{written_resource, written_iri, written_object, written_graph_name}
@@ -37,7 +35,7 @@ pub no_white_space : (rest : Text) → BeginsWithNoWhite rest → IsWhiteThen re
 no_white_space rest stops = record { white = []; spelled = refl; allowed = All-nil _; stops = stops }
 
 one_space : (rest : Text) → BeginsWithNoWhite rest → IsWhiteThen (32 ∷ rest) rest
-one_space rest stops = record { white = 32 ∷ []; spelled = refl; allowed = All-cons (λ c. is_white c ≡ true) 32 [] refl (All-nil _); stops = stops }
+one_space rest stops = record { white = 32 ∷ []; spelled = refl; allowed = All-cons (λ c. is_space_or_tab c ≡ true) 32 [] refl (All-nil _); stops = stops }
 
 -- the suffix of a literal, and the space behind it, of which a string without suffix takes the space
 record ReadsSuffix (text : Text) (kind : LiteralKind) (rest : Text) : Type 0 where

@@ -1,9 +1,8 @@
--- What a document states: the distinct quads of its lines in order of first appearance, with nodes numbered by first mention.
+-- What a document states: the distinct quads of its lines in order of first appearance, with nodes numbered by first
+-- mention.
 use Rattle.std.specs.Prelude.{◌≡◌, ℕ, ◌-◌, ◌<◌, List, [], ◌∷◌, ◌++◌, Option, Some, None, IfSome, IsUtf8, slice_get, length, All, take}
 use Rattle.std.specs.List.{flat_map, AllZip}
-use Rattle.rdf_terms.specs.Lists.{Text}
-use Rattle.rdf_terms.specs.Terms.{Statement, HasScheme}
-use Rattle.rdf_terms.specs.Document.{AddsAll}
+use Rattle.rdf_terms.specs.Vocabulary.{Text, Statement, HasScheme, AddsAll}
 use Rattle.rdf_terms.specs.declared.term.Term.{Term}
 use Rattle.rdf_terms.specs.declared.term.Term.TheVariants.{Iri as IriTerm, Blank, Literal as LiteralTerm}
 use Rattle.rdf_terms.specs.declared.term.LiteralKind.{LiteralKind}
@@ -36,7 +35,7 @@ IsAbsoluteObject (ResourceObject resource) = IsAbsoluteResource resource
 IsAbsoluteObject (LiteralObject literal) = IsAbsoluteKind literal.kind
 
 -- each IRI of the quad has a scheme, that of a datatype too
-pub record IsAbsolute (quad : StatedQuad) : Type 0 where
+pub record HasAbsoluteIris (quad : StatedQuad) : Type 0 where
   pub subject : IsAbsoluteResource quad.subject
   pub predicate : HasScheme quad.predicate
   pub object : IsAbsoluteObject quad.object
@@ -53,13 +52,13 @@ IsBad line = IsUtf8 line × ((stated : Option StatedQuad) → ¬ (States line st
 
 -- UTF-8 and in the grammar, and one of its IRIs has no scheme
 abbrev pub HasRelativeIri : Text → Type 0
-HasRelativeIri line = IsUtf8 line × ((quad : StatedQuad) × States line (Some quad) × (¬ (IsAbsolute quad)))
+HasRelativeIri line = IsUtf8 line × ((quad : StatedQuad) × States line (Some quad) × (¬ (HasAbsoluteIris quad)))
 
 -- none of these, and the line states no quad or this one
 pub record IsFaultless (line : Text) (stated : Option StatedQuad) : Type 0 where
   pub utf8 : IsUtf8 line
   pub states : States line stated
-  pub absolute : IfSome stated IsAbsolute
+  pub absolute : IfSome stated HasAbsoluteIris
 
 -- line n, counted from 1, has this fault, and no line before it has any
 pub record IsLeastFaulty (HasFault : Text → Type 0) (lines : List Text) (n : ℕ) : Type 0 where
@@ -78,7 +77,9 @@ quads_in (Some quad) = quad ∷ []
 -- no line has a fault, and the quads that they state are these, line by line
 abbrev pub AllState : List Text → List StatedQuad → Type 0
 AllState [] quads = quads ≡ []
-AllState (line ∷ lines) quads = (stated : Option StatedQuad) × (more : List StatedQuad) × IsFaultless line stated × (quads ≡ quads_in stated ++ more) × AllState lines more
+AllState (line ∷ lines) quads =
+    (stated : Option StatedQuad) × (more : List StatedQuad) × IsFaultless line stated
+    × (quads ≡ quads_in stated ++ more) × AllState lines more
 
 -- ---- nodes: a label names one node in the whole document
 
@@ -96,12 +97,14 @@ labels_of_graph_name (Some resource) = labels_of_resource resource
 
 -- the labels that a quad mentions, in their order
 abbrev pub mentioned : StatedQuad → List Label
-mentioned quad = labels_of_resource quad.subject ++ (labels_of_object quad.object ++ labels_of_graph_name quad.graph_name)
+mentioned quad =
+    labels_of_resource quad.subject ++ (labels_of_object quad.object ++ labels_of_graph_name quad.graph_name)
 
 -- the term for what a line states, where node n has label n
 abbrev pub IsResourceTerm : List Label → Resource → Term → Type 0
 IsResourceTerm labels (Iri iri) term = term ≡ IriTerm iri
-IsResourceTerm labels (LabelResource label) term = (n : ℕ) × (slice_get labels n ≡ Some (Named label)) × (term ≡ Blank n)
+IsResourceTerm labels (LabelResource label) term =
+    (n : ℕ) × (slice_get labels n ≡ Some (Named label)) × (term ≡ Blank n)
 
 abbrev pub IsObjectTerm : List Label → Object → Term → Type 0
 IsObjectTerm labels (ResourceObject resource) term = IsResourceTerm labels resource term
@@ -119,7 +122,8 @@ pub record IsStatementOf (labels : List Label) (quad : StatedQuad) (statement : 
 
 -- ---- the document
 
--- no line has a fault; node n has label n, in order of first mention; and these are the distinct quads, in order of first appearance
+-- no line has a fault; node n has label n, in order of first mention; and these are the distinct quads, in order of
+-- first appearance
 pub record AreRead (lines : List Text) (labels : List Label) (statements : List Statement) : Type 0 where
   pub stated : List StatedQuad
   pub numbered : List Statement
@@ -136,5 +140,7 @@ abbrev pub IsCauseOf : Text → ReadFault → Type 0
 IsCauseOf bytes (NotUtf8 n) = IsLeastFaulty IsNotUtf8 (lines_of bytes) n
 IsCauseOf bytes (BadLine n) = IsLeastFaulty IsBad (lines_of bytes) n
 IsCauseOf bytes (RelativeIri n) = IsLeastFaulty HasRelativeIri (lines_of bytes) n
-IsCauseOf bytes TooManyQuads = (labels : List Label) × (statements : List Statement) × IsNQuads bytes labels statements × (MAX_QUADS < length statements)
+IsCauseOf bytes TooManyQuads =
+    (labels : List Label) × (statements : List Statement) × IsNQuads bytes labels statements
+    × (MAX_QUADS < length statements)
 IsCauseOf bytes NoMemory = Unit {0}

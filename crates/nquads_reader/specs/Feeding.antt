@@ -1,7 +1,6 @@
 -- What the steps of reading in pieces do.
-use Rattle.std.specs.Prelude.{◌≡◌, ◌≢◌, ℕ, ◌+◌, ◌*◌, ◌≤◌, Bool, ◌&&◌, List, [], ◌∷◌, ◌++◌, length, drop, if◌then◌else◌}
-use Rattle.rdf_terms.specs.Lists.{Text}
-use Rattle.rdf_terms.specs.Document.{Document, statements}
+use Rattle.std.specs.Prelude.{◌≡◌, ℕ, ◌+◌, ◌*◌, ◌≤◌, Bool, ◌&&◌, List, [], ◌∷◌, ◌++◌, length, drop, if◌then◌else◌}
+use Rattle.rdf_terms.specs.Vocabulary.{Text, Document, statements}
 use Rattle.nquads_reader.specs.Lines.{lines_of, begins_with_lf}
 use Rattle.nquads_reader.specs.Document.{AllState}
 use Rattle.nquads_reader.specs.Reading.{IsFaultOf, TakesQuads}

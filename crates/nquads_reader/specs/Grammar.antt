@@ -1,7 +1,6 @@
 -- The grammar of one line (RDF 1.1 N-Quads, section 4), apart from how it is read.
 use Rattle.std.specs.Prelude.{◌≡◌, ◌≢◌, ℕ, Bool, true, false, ◌||◌, ◌==◌, ◌⊎◌, [], ◌∷◌, ◌++◌, Option, Some, None, All}
-use Rattle.rdf_terms.specs.Lists.{Text}
-use Rattle.rdf_terms.specs.CanonicalForm.{xsd_string}
+use Rattle.rdf_terms.specs.Vocabulary.{Text, xsd_string}
 use Rattle.rdf_terms.specs.declared.term.Literal.{Literal}
 use Rattle.rdf_terms.specs.declared.term.LiteralKind.{LiteralKind}
 use Rattle.rdf_terms.specs.declared.term.LiteralKind.TheVariants.{Typed, Tagged}
@@ -18,18 +17,18 @@ use Rattle.nquads_reader.specs.declared.quad.StatedQuad.{StatedQuad}
 -- ---- white space and comments
 
 -- a space or a tab
-abbrev pub is_white : ℕ → Bool
-is_white c = c == 32 || c == 9
+abbrev pub is_space_or_tab : ℕ → Bool
+is_space_or_tab c = c == 32 || c == 9
 
 abbrev pub BeginsWithNoWhite : Text → Type 0
 BeginsWithNoWhite [] = Unit {0}
-BeginsWithNoWhite (c ∷ cs) = is_white c ≡ false
+BeginsWithNoWhite (c ∷ cs) = is_space_or_tab c ≡ false
 
 -- all spaces and tabs at the front, and then the rest
 pub record IsWhiteThen (text rest : Text) : Type 0 where
   pub white : Text
   pub spelled : text ≡ white ++ rest
-  pub allowed : All (λ c. is_white c ≡ true) white
+  pub allowed : All (λ c. is_space_or_tab c ≡ true) white
   pub stops : BeginsWithNoWhite rest
 
 -- nothing, or `#` and whatever follows it
@@ -85,7 +84,8 @@ BeginsWithNoSuffix (c ∷ cs) = (c ≢ 94) × (c ≢ 64)
 
 -- ('^^' IRIREF | LANGTAG)?, where a string with neither is an `xsd:string`
 abbrev pub BeginsWithSuffix : Text → LiteralKind → Text → Type 0
-BeginsWithSuffix text (Typed iri) rest = BeginsWithDatatype text iri rest ⊎ ((iri ≡ xsd_string) × (rest ≡ text) × BeginsWithNoSuffix text)
+BeginsWithSuffix text (Typed iri) rest =
+    BeginsWithDatatype text iri rest ⊎ ((iri ≡ xsd_string) × (rest ≡ text) × BeginsWithNoSuffix text)
 BeginsWithSuffix text (Tagged tag) rest = BeginsWithTag text tag rest
 
 -- literal ::= STRING_LITERAL_QUOTE ('^^' IRIREF | LANGTAG)?
@@ -121,7 +121,8 @@ pub record EndsStatement (text : Text) : Type 0 where
   pub dot : text ≡ 46 ∷ after_dot
   pub blank : IsBlank after_dot
 
--- statement ::= subject predicate object graphLabel? '.', with white space before it, and white space and optionally a comment behind it
+-- statement ::= subject predicate object graphLabel? '.', with white space before it, and white space and optionally a
+-- comment behind it
 pub record IsStatement (line : Text) (quad : StatedQuad) : Type 0 where
   pub at_subject : Text
   pub at_dot : Text

@@ -1,4 +1,5 @@
--- The lines of a document (RDF 1.1 N-Quads, section 4): a line ends before LF, before CR LF, before a CR that no LF follows, or at the end of the document. The end of the document right behind a line end begins no further line.
+-- The lines of a document (RDF 1.1 N-Quads, section 4): a line ends before LF, before CR LF, before a CR that no LF
+-- follows, or at the end of the document. The end of the document right behind a line end begins no further line.
 use Rattle.std.specs.Prelude.{ℕ, Bool, false, List, [], ◌∷◌, ◌==◌, if◌then◌else◌}
 use Rattle.rdf_terms.specs.Lists.{Text}
 

@@ -1,11 +1,10 @@
 -- A document that comes in pieces: which of its lines are ended by what came so far, and what a reader holds of it.
 use Rattle.std.specs.Prelude.{◌≡◌, ℕ, ◌+◌, Bool, true, false, ◌||◌, ◌==◌, ◌⊎◌, List, [], ◌∷◌, ◌++◌, Option, Some, None, All, length, take}
-use Rattle.rdf_terms.specs.Lists.{Text}
-use Rattle.rdf_terms.specs.Document.{Document, statements}
+use Rattle.rdf_terms.specs.Vocabulary.{Text, Document, statements}
 use Rattle.nquads_reader.specs.Lines.{lines_of}
 use Rattle.nquads_reader.specs.Document.{IsNotUtf8, IsBad, HasRelativeIri, IsLeastFaulty, AreRead}
 use Rattle.nquads_reader.specs.declared.fault.ReadFault.{ReadFault}
-use Rattle.nquads_reader.specs.declared.fault.ReadFault.TheVariants.{NotUtf8, BadLine, RelativeIri, TooManyQuads, NoMemory}
+use Rattle.nquads_reader.specs.declared.fault.ReadFault.TheVariants.{NotUtf8, BadLine, RelativeIri}
 
 -- ---- the last line end
 
@@ -46,7 +45,8 @@ pub record Reader : Type 0 where
   -- how many bytes came
   pub fed : ℕ
 
--- the ended lines of the bytes have no fault, and this is what they state, how many they are, and what stands behind them
+-- the ended lines of the bytes have no fault, and this is what they state, how many they are, and what stands behind
+-- them
 pub record AreTaken (bytes : Text) (draft : Document) (lines : ℕ) (tail : Text) : Type 0 where
   pub ended : Text
   pub cut : IsCut bytes ended tail
@@ -58,8 +58,7 @@ abbrev pub IsFirstFaultOf : List Text → ℕ → ReadFault → Type 0
 IsFirstFaultOf lines before (NotUtf8 n) = (n ≡ before + 1) × IsLeastFaulty IsNotUtf8 lines n
 IsFirstFaultOf lines before (BadLine n) = (n ≡ before + 1) × IsLeastFaulty IsBad lines n
 IsFirstFaultOf lines before (RelativeIri n) = (n ≡ before + 1) × IsLeastFaulty HasRelativeIri lines n
-IsFirstFaultOf lines before TooManyQuads = ⊥
-IsFirstFaultOf lines before NoMemory = ⊥
+IsFirstFaultOf lines before _ = ⊥
 
 -- an ended line of the bytes has a fault, and this is what the lines before the first such line state
 pub record AreStopped (bytes : Text) (draft : Document) (lines : ℕ) (fault : ReadFault) : Type 0 where

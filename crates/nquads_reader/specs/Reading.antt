@@ -1,9 +1,7 @@
 -- What a function that reads at the front of a text answers.
-use Rattle.std.specs.Prelude.{◌≡◌, ℕ, ◌+◌, ◌*◌, ◌<◌, ◌≤◌, List, ◌∷◌, ◌++◌, Option, Some, None, IfSome, IsUtf8, length}
+use Rattle.std.specs.Prelude.{◌≡◌, ℕ, ◌+◌, ◌*◌, ◌≤◌, List, ◌∷◌, ◌++◌, Option, Some, None, IfSome, IsUtf8, length}
 use Rattle.std.specs.List.{flat_map, AllZip}
-use Rattle.rdf_terms.specs.Lists.{Text}
-use Rattle.rdf_terms.specs.Terms.{Statement, IsAbsoluteIri, IsValidKind}
-use Rattle.rdf_terms.specs.Document.{Document, AddsAll, statements}
+use Rattle.rdf_terms.specs.Vocabulary.{Text, Statement, IsAbsoluteIri, IsValidKind, Document, AddsAll, statements}
 use Rattle.nquads_reader.specs.Lines.{lines_of}
 use Rattle.nquads_reader.specs.Document.{IsNotUtf8, IsBad, HasRelativeIri, IsFaultless, quads_in, AllState, mentioned, IsStatementOf}
 use Rattle.nquads_reader.specs.declared.quad.Resource.{Resource}
@@ -16,7 +14,8 @@ use Rattle.nquads_reader.specs.declared.fault.LineFault.TheVariants.{NotUtf8, Ba
 use Rattle.nquads_reader.specs.declared.fault.ReadFault.{ReadFault}
 use Rattle.nquads_reader.specs.declared.fault.ReadFault.TheVariants.{NotUtf8 as NotUtf8In, BadLine as BadLineIn, RelativeIri as RelativeIriIn, NoMemory as Memory}
 
--- the text begins with what was found, seen by view as a value and the rest; where nothing was found, it begins with nothing of the kind
+-- the text begins with what was found, seen by view as a value and the rest; where nothing was found, it begins with
+-- nothing of the kind
 abbrev pub Reads : {X V : Type 0} → (X → V × Text) → (V → Text → Type 0) → Option X → Type 0
 Reads {X} {V} view BeginsWith None = (value : V) (rest : Text) → ¬ (BeginsWith value rest)
 Reads view BeginsWith (Some x) = BeginsWith (view x).0 (view x).1

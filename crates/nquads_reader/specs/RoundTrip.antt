@@ -1,11 +1,7 @@
--- What it means that a written text is read back: names that are labels of N-Quads, and the dataset that is read (RDF 1.1 Concepts, section 4.1).
+-- What it means that a written text is read back: names that are labels of N-Quads, and the dataset that is read (RDF
+-- 1.1 Concepts, section 4.1).
 use Rattle.std.specs.Prelude.{◌≡◌, ℕ, ◌<◌, ◌⊎◌, ◌++◌, List, length, Some, slice_get, codes}
-use Rattle.rdf_terms.specs.Lists.{Text}
-use Rattle.rdf_terms.specs.Numeral.{numeral}
-use Rattle.rdf_terms.specs.Terms.{Statement}
-use Rattle.rdf_terms.specs.Dataset.{Dataset}
-use Rattle.rdf_terms.specs.Isomorphism.{Relabelling, Carries}
-use Rattle.rdf_terms.specs.CanonicalForm.{Naming}
+use Rattle.rdf_terms.specs.Vocabulary.{Text, numeral, Statement, Dataset, Relabelling, Carries, Naming}
 use Rattle.rdf_terms.specs.declared.term.Label.{Label}
 use Rattle.rdf_terms.specs.declared.term.Label.TheVariants.{Named}
 
@@ -21,7 +17,8 @@ pub record IsNumbered (nodes : ℕ) (ν : Naming) : Type 0 where
   pub name : (n : ℕ) → n < nodes → ν n ≡ prefix ++ numeral (number n)
   pub own : (m n : ℕ) → m < nodes → n < nodes → number m ≡ number n → m ≡ n
 
--- the labels and the statements are those of a dataset that is isomorphic to D, and the label of each node is the name of its partner in D
+-- the labels and the statements are those of a dataset that is isomorphic to D, and the label of each node is the name
+-- of its partner in D
 pub record ReadsBack (D : Dataset) (ν : Naming) (labels : List Label) (statements : List Statement) : Type 0 where
   pub relabelling : Relabelling D.nodes
   pub carries : Carries relabelling.to D (record { nodes = length labels; statements = statements })

@@ -17,7 +17,6 @@ mod quad;
 mod read;
 mod read_lines;
 mod stated_literal;
-mod stated_text;
 mod take_piece;
 mod terms;
 mod white;

@@ -2,7 +2,7 @@
 ghost use Rattle.std.specs.Prelude.{◌≡◌, ◌↔◌, IfOk, IfErr, IfSome, IsTrue};
 ghost use Rattle.rdf_terms.specs.Terms.{HasScheme};
 ghost use Rattle.nquads_reader.specs.Grammar.{BeginsWithGraphName, BeginsWithTerms, EndsStatement, States};
-ghost use Rattle.nquads_reader.specs.Document.{IsAbsoluteResource, IsAbsoluteObject, IsAbsolute, IsFaultless};
+ghost use Rattle.nquads_reader.specs.Document.{IsAbsoluteResource, IsAbsoluteObject, HasAbsoluteIris, IsFaultless};
 ghost use Rattle.nquads_reader.specs.Reading.{Reads, IsFaultOf};
 
 use crate::fault::LineFault;
@@ -107,8 +107,8 @@ fn is_absolute_object(object: &Object<'_>) -> bool
 
 // Whether each IRI of the quad has a scheme.
 #[inline(always)]
-fn is_absolute(quad: &StatedQuad<'_>) -> bool
-    ensures { IsTrue result ↔ IsAbsolute quad.now }
+fn has_absolute_iris(quad: &StatedQuad<'_>) -> bool
+    ensures { IsTrue result ↔ HasAbsoluteIris quad.now }
 {
     is_absolute_resource(&quad.subject)
         && has_scheme(quad.predicate.as_str())
@@ -130,7 +130,7 @@ pub(crate) fn read_line(alloc: Global, line: &[u8]) -> Result<Option<StatedQuad<
     match stated(alloc, text)? {
         None => Ok(None),
         Some(quad) => {
-            if is_absolute(&quad) {
+            if has_absolute_iris(&quad) {
                 Ok(Some(quad))
             } else {
                 Err(LineFault::RelativeIri)

@@ -1,12 +1,12 @@
 //! A quad as its line states it, over labels.
 use crate::stated_literal::StatedLiteral;
-use crate::stated_text::StatedText;
+use terminals::SpelledText;
 
 // What a line states: an IRI, or a blank node by its label.
 #[derive(Drop)]
 pub(crate) enum Resource<'a> {
-    Iri(StatedText<'a>),
-    Label(StatedText<'a>),
+    Iri(SpelledText<'a>),
+    Label(SpelledText<'a>),
 }
 
 #[derive(Drop)]
@@ -19,7 +19,7 @@ pub(crate) enum Object<'a> {
 #[derive(Drop)]
 pub(crate) struct StatedQuad<'a> {
     pub(crate) subject: Resource<'a>,
-    pub(crate) predicate: StatedText<'a>,
+    pub(crate) predicate: SpelledText<'a>,
     pub(crate) object: Object<'a>,
     pub(crate) graph_name: Option<Resource<'a>>,
 }

@@ -4,16 +4,16 @@ ghost use Rattle.rdf_terms.specs.References.{kind_of, literal_of};
 ghost use Rattle.nquads_reader.specs.Document.{IsAbsoluteKind};
 ghost use Rattle.nquads_reader.specs.Suffixes.{suffix_kind};
 
-use crate::stated_text::StatedText;
 use iri_resolve::has_scheme;
 use rdf_terms::{LiteralKindRef, LiteralRef};
 use std::marker::Model;
+use terminals::SpelledText;
 
 // What stands behind a string: its datatype, or its tag.
 #[derive(Drop)]
 pub(crate) enum Suffix<'a> {
-    Datatype(StatedText<'a>),
-    Tag(StatedText<'a>),
+    Datatype(SpelledText<'a>),
+    Tag(SpelledText<'a>),
 }
 
 impl Suffix<'_> {
@@ -39,7 +39,7 @@ impl Suffix<'_> {
 // A literal as a line states it.
 #[derive(Drop)]
 pub(crate) struct StatedLiteral<'a> {
-    lexical: StatedText<'a>,
+    lexical: SpelledText<'a>,
     suffix: Suffix<'a>,
 }
 
@@ -53,7 +53,7 @@ impl<'a> Model for StatedLiteral<'a> {
 }
 
 impl<'a> StatedLiteral<'a> {
-    pub(crate) fn new(lexical: StatedText<'a>, suffix: Suffix<'a>) -> Self
+    pub(crate) fn new(lexical: SpelledText<'a>, suffix: Suffix<'a>) -> Self
         ensures { result ≡ record { lexical = lexical.entry; kind = suffix_kind suffix.entry } }
     {
         StatedLiteral { lexical, suffix }

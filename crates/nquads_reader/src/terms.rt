@@ -1,53 +1,39 @@
 //! The terms of a line.
-ghost use Rattle.std.specs.Prelude.{◌≡◌, ◌↔◌, IfOk, IsTrue, false};
-ghost use Rattle.rdf_terms.specs.Lists.{Text};
+ghost use Rattle.std.specs.Prelude.{◌≡◌, ◌↔◌, IfOk, IsTrue};
 ghost use Rattle.rdf_terms.specs.CanonicalForm.{xsd_string};
-ghost use Rattle.terminals.specs.Spellings.{TextSpells};
 ghost use Rattle.nquads_reader.specs.Grammar.{BeginsWithIri, BeginsWithString, BeginsWithResource, BeginsWithDatatype, BeginsWithTag, BeginsWithNoSuffix, BeginsWithSuffix, BeginsWithLiteral, BeginsWithObject};
 ghost use Rattle.nquads_reader.specs.Reading.{Reads};
 ghost use Rattle.nquads_reader.specs.Suffixes.{suffix_kind};
 
 use crate::quad::{Object, Resource};
 use crate::stated_literal::{StatedLiteral, Suffix};
-use crate::stated_text::StatedText;
 use crate::white::after_white;
 use rdf_terms::{NoMemory, xsd};
 use std::alloc::Global;
-use terminals::{Grammar, Quote, Spelling, after, blank_node_label, iriref, langtag, short_string};
-
-// The characters that are spelled.
-#[inline(always)]
-fn spelled<'a>(alloc: Global, spelling: Spelling<'a>) -> Result<StatedText<'a>, NoMemory>
-    ensures { (value : Text) → TextSpells spelling.entry.body spelling.entry.text.now value → (spelling.entry.has_escapes ≡ false → spelling.entry.text.now ≡ value) → IfOk result (λ text. text ≡ value) }
-{
-    if !spelling.has_escapes {
-        return Ok(StatedText::of_line(spelling.text));
-    }
-    let mut value = String::new(alloc);
-    spelling.unescape(&mut value)?;
-    Ok(StatedText::with_escapes_undone(value))
-}
+use terminals::{
+    Grammar, Quote, SpelledText, after, blank_node_label, iriref, langtag, short_string,
+};
 
 // Each function below answers what stands at the front of the text, and what follows it.
 
 #[inline(always)]
-pub(crate) fn iri(alloc: Global, text: &str) -> Result<Option<(StatedText<'_>, &str)>, NoMemory>
+pub(crate) fn iri(alloc: Global, text: &str) -> Result<Option<(SpelledText<'_>, &str)>, NoMemory>
     ensures { IfOk result (Reads (λ x. (x.0, x.1.now)) (BeginsWithIri text.now)) }
 {
     let Some((spelling, rest)) = iriref(text) else {
         return Ok(None);
     };
-    Ok(Some((spelled(alloc, spelling)?, rest)))
+    Ok(Some((spelling.value(alloc)?, rest)))
 }
 
 #[inline(always)]
-fn string(alloc: Global, text: &str) -> Result<Option<(StatedText<'_>, &str)>, NoMemory>
+fn string(alloc: Global, text: &str) -> Result<Option<(SpelledText<'_>, &str)>, NoMemory>
     ensures { IfOk result (Reads (λ x. (x.0, x.1.now)) (BeginsWithString text.now)) }
 {
     let Some((spelling, rest)) = short_string(text, Quote::Double) else {
         return Ok(None);
     };
-    Ok(Some((spelled(alloc, spelling)?, rest)))
+    Ok(Some((spelling.value(alloc)?, rest)))
 }
 
 #[inline(always)]
@@ -60,10 +46,10 @@ pub(crate) fn resource(alloc: Global, text: &str) -> Result<Option<(Resource<'_>
     let Some((label, rest)) = blank_node_label(text, Grammar::NQuads) else {
         return Ok(None);
     };
-    Ok(Some((Resource::Label(StatedText::of_line(label)), rest)))
+    Ok(Some((Resource::Label(SpelledText::of_text(label)), rest)))
 }
 
-fn datatype(alloc: Global, text: &str) -> Result<Option<(StatedText<'_>, &str)>, NoMemory>
+fn datatype(alloc: Global, text: &str) -> Result<Option<(SpelledText<'_>, &str)>, NoMemory>
     ensures { IfOk result (Reads (λ x. (x.0, x.1.now)) (BeginsWithDatatype text.now)) }
 {
     let Some(rest) = after(text, '^') else {
@@ -75,11 +61,11 @@ fn datatype(alloc: Global, text: &str) -> Result<Option<(StatedText<'_>, &str)>,
     iri(alloc, after_white(rest))
 }
 
-fn tag(text: &str) -> Option<(StatedText<'_>, &str)>
+fn tag(text: &str) -> Option<(SpelledText<'_>, &str)>
     ensures { Reads (λ x. (x.0, x.1.now)) (BeginsWithTag text.now) result }
 {
     match langtag(text) {
-        Some((tag, rest)) => Some((StatedText::of_line(tag), rest)),
+        Some((tag, rest)) => Some((SpelledText::of_text(tag), rest)),
         None => None,
     }
 }
@@ -99,7 +85,7 @@ fn suffix(alloc: Global, text: &str) -> Result<Option<(Suffix<'_>, &str)>, NoMem
 {
     if has_no_suffix(text) {
         // RDF 1.1 Concepts, section 3.3
-        let datatype = StatedText::of_line(xsd::STRING);
+        let datatype = SpelledText::of_text(xsd::STRING);
         return Ok(Some((Suffix::Datatype(datatype), text)));
     }
     if let Some((tag, rest)) = tag(text) {

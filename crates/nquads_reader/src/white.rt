@@ -1,19 +1,19 @@
 //! White space and comments.
 ghost use Rattle.std.specs.Prelude.{◌≡◌, ◌≤◌, ◌↔◌, IsTrue, length};
 ghost use Rattle.std.specs.List.{prefix_len};
-ghost use Rattle.nquads_reader.specs.Grammar.{is_white, IsWhiteThen, IsOptionalComment};
+ghost use Rattle.nquads_reader.specs.Grammar.{is_space_or_tab, IsWhiteThen, IsOptionalComment};
 
-fn is_white_byte(byte: u8) -> bool
-    ensures { result ≡ is_white byte }
+fn is_space_or_tab(byte: u8) -> bool
+    ensures { result ≡ is_space_or_tab byte }
 {
     byte == b' ' || byte == b'\t'
 }
 
 fn white_len(text: &[u8]) -> usize
-    ensures is { result ≡ prefix_len is_white text.now }
+    ensures is { result ≡ prefix_len is_space_or_tab text.now }
     ensures within { result ≤ length text.now }
 {
-    text.iter().take_while(|b| is_white_byte(**b)).count()
+    text.iter().take_while(|b| is_space_or_tab(**b)).count()
 }
 
 // What follows the white space at the front.

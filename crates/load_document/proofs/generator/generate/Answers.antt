@@ -1,6 +1,5 @@
 use Rattle.std.proofs.Common.{◌*◌, ◌≤◌, ◌≡◌, ◌∙◌, length, sym, subst}
-use Rattle.load_document.specs.LoadDocument.{load_document}
-use Rattle.load_document.specs.Readable.{IsReadable}
+use Rattle.load_document.specs.LoadDocument.{load_document, IsReadable}
 use Rattle.load_document.proofs.Whole.{both_parts}
 use Rattle.load_document.proofs.Sizes.{document-short}
 use Rattle.load_document.proofs.NoFault.{document-readable}

@@ -1,4 +1,4 @@
-use Rattle.std.proofs.Common.{◌≡◌, ◌∷◌, ◌++◌, [], refl, ap, sym, ◌∙◌, arith, length-append}
+use Rattle.std.proofs.Common.{◌∷◌, ◌++◌, [], ap, ◌∙◌, arith, length-append}
 use Rattle.nquads_reader.specs.Lines.{lines_of}
 use Rattle.nquads_reader.proofs.Room.{appended_room, appended_few}
 use Rattle.nquads_reader.proofs.ReadLines.{state_more, next_passed}

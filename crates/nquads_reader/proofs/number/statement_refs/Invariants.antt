@@ -1,7 +1,6 @@
 use Rattle.std.proofs.Common.{◌≡◌, ◌+◌, ◌*◌, ◌≤◌, length, map, take}
 use Rattle.std.specs.List.{flat_map, AllZip}
-use Rattle.rdf_terms.specs.Document.{statements, AddsAll}
-use Rattle.rdf_terms.specs.References.{statement_of}
+use Rattle.rdf_terms.proofs.Common.{statements, AddsAll, statement_of}
 use Rattle.nquads_reader.specs.Document.{mentioned, IsStatementOf}
 use Rattle.nquads_reader.proofs.number.statement_refs.Given as goal
 

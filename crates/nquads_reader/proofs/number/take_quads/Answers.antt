@@ -1,8 +1,7 @@
 use Rattle.std.proofs.Common.{ap, arith, length}
 use Rattle.std.proofs.lemmas.Slice.Zip.{AllZip-long}
 use Rattle.std.proofs.lemmas.List.{length-map}
-use Rattle.rdf_terms.specs.Document.{statement}
-use Rattle.rdf_terms.specs.References.{statement_of}
+use Rattle.rdf_terms.proofs.Common.{statement, statement_of}
 use Rattle.nquads_reader.specs.Document.{IsStatementOf}
 use Rattle.nquads_reader.proofs.ManyQuads.{refs_valid}
 use Rattle.nquads_reader.proofs.number.take_quads.Goals as goal

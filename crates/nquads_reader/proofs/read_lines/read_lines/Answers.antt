@@ -1,8 +1,5 @@
-use Rattle.std.proofs.Common.{◌≡◌, ◌+◌, ◌*◌, ◌++◌, List, length, ap, sym, subst, ◌∙◌, arith, append_assoc, append-nil}
+use Rattle.std.proofs.Common.{◌+◌, ◌++◌, length, ap, sym, subst, ◌∙◌, arith, append-nil}
 use Rattle.std.proofs.lemmas.Bool.{eqb-true}
-use Rattle.rdf_terms.specs.Lists.{Text}
-use Rattle.rdf_terms.specs.Document.{Document, statements}
-use Rattle.nquads_reader.specs.declared.quad.StatedQuad.{StatedQuad}
 use Rattle.nquads_reader.specs.Lines.{lines_of}
 use Rattle.nquads_reader.specs.Reading.{TakesQuads, IsFaultNext}
 use Rattle.nquads_reader.specs.Feeding.{TakesLines}
@@ -25,7 +22,10 @@ loop-rest-preserved c =
     record {
       passed = old.passed ++ block.passed;
       splits = behind_block (lines_of c.args.bytes.now) (lines_of c.loop-rest.rest.now) old.passed block.passed (lines_of c.read_block-block.result.rest.now) old.splits block.splits;
-      takes = takes_append old.passed block.passed c.args.draft.now c.loop-rest.draft c.take_quads.new.draft c.args.lines.now c.loop-rest.lines (c.loop-rest.lines + c.read_block-block.result.lines) old.takes (block_taken c.loop-rest.rest.now quads c.read_block-block.result.lines c.read_block-block.result.rest.now c.loop-rest.draft c.take_quads.new.draft c.loop-rest.lines block takes);
+      takes =
+          takes_append old.passed block.passed c.args.draft.now c.loop-rest.draft c.take_quads.new.draft c.args.lines.now c.loop-rest.lines
+          (c.loop-rest.lines + c.read_block-block.result.lines) old.takes
+          (block_taken c.loop-rest.rest.now quads c.read_block-block.result.lines c.read_block-block.result.rest.now c.loop-rest.draft c.take_quads.new.draft c.loop-rest.lines block takes);
       quads = omega (arith, old.quads, block.room, taken_quads_room quads c.loop-rest.draft c.take_quads.new.draft takes);
       labels = omega (arith, old.labels, block.room, taken_labels_room quads c.loop-rest.draft c.take_quads.new.draft takes);
       few = omega (arith, old.few, block.few);
@@ -42,8 +42,13 @@ returns-in-Some-clause-err c other =
       front = old.passed ++ block.passed;
       line = next.line;
       rest = next.more;
-      splits = behind_block (lines_of c.args.bytes.now) (lines_of c.loop-rest.rest.now) old.passed block.passed (lines_of c.read_block-block.result.rest.now) old.splits block.splits ∙ ap (λ ls. (old.passed ++ block.passed) ++ ls) next.next;
-      takes = takes_append old.passed block.passed c.args.draft.now c.loop-rest.draft c.take_quads.new.draft c.args.lines.now c.loop-rest.lines (c.loop-rest.lines + c.read_block-block.result.lines) old.takes (block_taken c.loop-rest.rest.now quads c.read_block-block.result.lines c.read_block-block.result.rest.now c.loop-rest.draft c.take_quads.new.draft c.loop-rest.lines block takes);
+      splits =
+          behind_block (lines_of c.args.bytes.now) (lines_of c.loop-rest.rest.now) old.passed block.passed (lines_of c.read_block-block.result.rest.now) old.splits block.splits
+          ∙ ap (λ ls. (old.passed ++ block.passed) ++ ls) next.next;
+      takes =
+          takes_append old.passed block.passed c.args.draft.now c.loop-rest.draft c.take_quads.new.draft c.args.lines.now c.loop-rest.lines
+          (c.loop-rest.lines + c.read_block-block.result.lines) old.takes
+          (block_taken c.loop-rest.rest.now quads c.read_block-block.result.lines c.read_block-block.result.rest.now c.loop-rest.draft c.take_quads.new.draft c.loop-rest.lines block takes);
       has_fault = next.has_fault;
     }
 

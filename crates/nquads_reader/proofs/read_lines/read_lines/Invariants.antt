@@ -1,6 +1,5 @@
 use Rattle.std.proofs.Common.{◌≡◌, ◌+◌, ◌*◌, ◌≤◌, ◌++◌, List, length}
-use Rattle.rdf_terms.specs.Lists.{Text}
-use Rattle.rdf_terms.specs.Document.{statements}
+use Rattle.rdf_terms.proofs.Common.{Text, statements}
 use Rattle.nquads_reader.specs.Lines.{lines_of}
 use Rattle.nquads_reader.specs.Feeding.{TakesLines}
 use Rattle.nquads_reader.proofs.read_lines.read_lines.Given as goal

@@ -11,4 +11,4 @@ returns-in_default c = λ v r h. no_reading (ShortString Double) c.args.text.now
 pub returns : goal.returns
 returns c =
     let found = c.in-Some.ensures.found in
-    subst (λ v. BeginsWithString c.args.text.now v c.in-Some.rest.now) (sym (c.in_ok-spelled.ensures found.value found.spells found.plain)) found.begins
+    subst (λ v. BeginsWithString c.args.text.now v c.in-Some.rest.now) (sym (c.in_ok-value.ensures found.value found.spells found.plain)) found.begins

@@ -1,5 +1,0 @@
-use Rattle.std.proofs.Common.{◌∙◌}
-use Rattle.nquads_reader.proofs.terms.spelled.Goals as goal
-
-pub returns : goal.returns
-returns c = λ value spells plain. c.with_escapes_undone.ensures ∙ c.in_ok-unescape.ensures.value value spells
