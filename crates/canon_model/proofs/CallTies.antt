@@ -1,9 +1,6 @@
 -- Each tie that the counted run of a call logs is tied, and its exchange may be checked.
 use Rattle.std.proofs.Common.{Bool, List, None, Option, Some, [], ap, append_assoc, arith, cond, false, inl, inr, refl, subst, suc, sym, true, true≢false, zero, ℕ, ◌++◌, ◌<◌, ◌∙◌, ◌∷◌, ◌≡◌, ◌⊎◌}
-use Rattle.rdf_terms.proofs.Membership.{In-append, from_In-map}
-use Rattle.rdf_terms.proofs.Permutations.{In-Permutes, Permutes-sym}
-use Rattle.rdf_terms.specs.Dataset.{Dataset}
-use Rattle.rdf_terms.specs.Lists.{In, Permutes, Text, is_before}
+use Rattle.rdf_terms.proofs.Common.{In-append, from_In-map, In-Permutes, Permutes-sym, Dataset, In, Permutes, Text, is_before, arrangements, In-arrangements, from_In-arrangements}
 use Rattle.canon_model.specs.CountedRun.{Chosen, Counted, Outcome, Tie, choose, chosen_text, counted_call, counted_call_within, counted_groups, counted_permutation, counted_permutations, counted_recursion, is_skipped, issuer_or, path_or_none, skips, ties_of_chosen}
 use Rattle.canon_model.specs.Groups.{groups}
 use Rattle.canon_model.specs.Issuer.{IsValidCall, is_issued}
@@ -21,8 +18,6 @@ use Rattle.canon_model.proofs.Issuers.{In-from_is_issued, are_distinct_from_once
 use Rattle.canon_model.proofs.OutcomesGrow.{data_to_hash-push}
 use Rattle.canon_model.proofs.TiedLists.{permutations-exchanged}
 use Rattle.canon_model.proofs.Totality.{Fits, MentionsNodes, fits_counted_call, fits_counted_group, fits_recursion, fits_valid_call, group-counted, mentions_nodes, n_degree_within-counted, nodes_of_groups, permutation_path-counted}
-use Rattle.rdf_terms.specs.Arrangements.{arrangements}
-use Rattle.rdf_terms.proofs.Arrangements.{In-arrangements, from_In-arrangements}
 
 abbrev pub AreTies : Hashing → Dataset → List Tie → Type 0
 AreTies ρ D ts = (t : Tie) → In t ts → IsTie ρ D t
@@ -48,17 +43,21 @@ module _ (ρ : Hashing) (D : Dataset) (c : List ℕ) (nodes : MentionsNodes D) (
     listed = In-from_is_issued n i hn;
   }
 
-  pub outcome-counted : (k m : ℕ) (i : List ℕ) → is_issued m i ≡ true → Fits ρ D c nodes k i → HashNDegreeQuads ρ D c m i (counted_call_within k ρ D c m i).value.text (counted_call_within k ρ D c m i).value.issuer
+  pub outcome-counted : (k m : ℕ) (i : List ℕ) → is_issued m i ≡ true → Fits ρ D c nodes k i
+      → HashNDegreeQuads ρ D c m i (counted_call_within k ρ D c m i).value.text (counted_call_within k ρ D c m i).value.issuer
   outcome-counted k m i hm f = record {
     valid = valid_call k m i hm f;
-    outcome = n_degree_within-depth ρ D c nodes k (suc D.nodes) m i _ _ hm (record { distinct = f.distinct; below = f.below; apart = f.apart; room = omega arith }) (n_degree_within-counted ρ D c nodes k m i hm f);
+    outcome =
+        n_degree_within-depth ρ D c nodes k (suc D.nodes) m i _ _ hm (record { distinct = f.distinct; below = f.below; apart = f.apart; deep = omega arith })
+        (n_degree_within-counted ρ D c nodes k m i hm f);
   }
 
   module _ (k : ℕ) (ties : (m : ℕ) (i : List ℕ) → is_issued m i ≡ true → Fits ρ D c nodes k i → AreTies ρ D (counted_call_within k ρ D c m i).trace.ties) where
     fits_next : (m : ℕ) (i : List ℕ) → is_issued m i ≡ true → Fits ρ D c nodes k i → Fits ρ D c nodes k (counted_call_within k ρ D c m i).value.issuer
     fits_next = fits_counted_call ρ D c nodes k (HashNDegreeQuads ρ D c) (hash_n_degree_quads-covers D c ρ) (outcome-counted k)
 
-    recursion-ties : (b : Option Text) (ms i : List ℕ) (π : Text) → ((m : ℕ) → In m ms → Fits ρ D c nodes k i) → ((m : ℕ) → In m ms → is_issued m i ≡ true) → AreTies ρ D (counted_recursion (counted_call_within k ρ D c) b c i π ms).trace.ties
+    recursion-ties : (b : Option Text) (ms i : List ℕ) (π : Text) → ((m : ℕ) → In m ms → Fits ρ D c nodes k i) → ((m : ℕ) → In m ms → is_issued m i ≡ true)
+        → AreTies ρ D (counted_recursion (counted_call_within k ρ D c) b c i π ms).trace.ties
     recursion-ties b [] i π fit there = are_ties-none ρ D
     recursion-ties b (m ∷ ms) i π fit there =
         let f = fit m (inl refl) in
@@ -69,12 +68,14 @@ module _ (ρ : Hashing) (D : Dataset) (c : List ℕ) (nodes : MentionsNodes D) (
         are_ties_cond ρ D (skips b longer) _ _ (ties m i hm f)
         (are_ties-append ρ D o.trace.ties _ (ties m i hm f) (recursion-ties b ms o.value.issuer longer (λ n h. fits_next m i hm f) (λ n h. is_issued-begins n i o.value.issuer g.0 (there n (inr h)))))
 
-    permutation-ties : (b : Option Text) (i p : List ℕ) → Fits ρ D c nodes (suc k) i → ((x : ℕ) → In x p → x < D.nodes) → AreTies ρ D (counted_permutation (counted_call_within k ρ D c) b c i p).trace.ties
+    permutation-ties : (b : Option Text) (i p : List ℕ) → Fits ρ D c nodes (suc k) i → ((x : ℕ) → In x p → x < D.nodes)
+        → AreTies ρ D (counted_permutation (counted_call_within k ρ D c) b c i p).trace.ties
     permutation-ties b i p f low = are_ties_cond ρ D (is_skipped b c i [] p) _ _ (are_ties-none ρ D)
         (recursion-ties b (recursion_list c i p) (issuer_copy_after c i p) (path_of_identifiers c i p) (fits_recursion ρ D c nodes k i p f low)
         (λ m h. let q = from_In-recursion_list D c i p m h in issuer_copy_after-issued D c i p m q.0 q.1))
 
-    permutations-ties : (b : Option Chosen) (i : List ℕ) (ps : List (List ℕ)) → Fits ρ D c nodes (suc k) i → ((p : List ℕ) → In p ps → (x : ℕ) → In x p → x < D.nodes) → AreTies ρ D (counted_permutations (counted_call_within k ρ D c) b c i ps).trace.ties
+    permutations-ties : (b : Option Chosen) (i : List ℕ) (ps : List (List ℕ)) → Fits ρ D c nodes (suc k) i → ((p : List ℕ) → In p ps → (x : ℕ) → In x p → x < D.nodes)
+        → AreTies ρ D (counted_permutations (counted_call_within k ρ D c) b c i ps).trace.ties
     permutations-ties b i [] f low = are_ties-none ρ D
     permutations-ties b i (p ∷ ps) f low =
         let t = counted_permutation (counted_call_within k ρ D c) (chosen_text b) c i p in
@@ -105,7 +106,8 @@ module _ (ρ : Hashing) (D : Dataset) (c : List ℕ) (nodes : MentionsNodes D) (
       exchanged : (p q : List ℕ) → Permutes bag p → Permutes bag q → MayBeExchanged D c i (issuer p) (issuer q)
       exchanged = permutations-exchanged ρ D c nodes (suc k) bag i (nodes_of_groups ρ D c nodes passed n h) f (record { path = path; issuer = issuer; walks = walks })
 
-      tied_paths : (p q : List ℕ) → Permutes bag p → Permutes bag q → ((r : List ℕ) → Permutes bag r → is_before (path r) (path p) ≡ false) → path p ≡ path q → AreTiedPaths ρ D c i (issuer p) (issuer q)
+      tied_paths : (p q : List ℕ) → Permutes bag p → Permutes bag q → ((r : List ℕ) → Permutes bag r → is_before (path r) (path p) ≡ false) → path p ≡ path q
+          → AreTiedPaths ρ D c i (issuer p) (issuer q)
       tied_paths p q a b least same = record {
         some_passed = some;
         node = n;
@@ -187,5 +189,6 @@ module _ (ρ : Hashing) (D : Dataset) (c : List ℕ) (nodes : MentionsNodes D) (
 
 pub ties_of_call_are_tied : TiesOfCallAreTied
 unfolding counted_call
-ties_of_call_are_tied ρ D c n i valid v = counted_call-ties ρ D c (mentions_nodes D valid) (record { once = are_once_from_distinct c v.canonical_once; below = λ x h. v.canonical_nodes x (In-from_is_issued x c h) })
+ties_of_call_are_tied ρ D c n i valid v =
+    counted_call-ties ρ D c (mentions_nodes D valid) (record { once = are_once_from_distinct c v.canonical_once; below = λ x h. v.canonical_nodes x (In-from_is_issued x c h) })
     (suc D.nodes) n i (is_issued-from_In n i v.listed) (fits_valid_call ρ D c (mentions_nodes D valid) (suc D.nodes) n i v (omega arith))

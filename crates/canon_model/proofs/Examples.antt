@@ -1,10 +1,7 @@
--- The counted run of small datasets, by computation. The hash stands in for SHA-256: it reads a text as a number to the base 257, modulo the prime 2^61 - 1, and writes it as one digit. Texts that differ in these runs have different hashes, as the counts show: with two texts taken for one, groups would be larger and ties more.
+-- The counted run of small datasets, by computation. The hash stands in for SHA-256: it reads a text as a number to the base 257, modulo the prime 2^61 - 1, and writes it as one digit. Texts that
+-- differ in these runs have different hashes, as the counts show: with two texts taken for one, groups would be larger and ties more.
 use Rattle.std.proofs.Common.{List, None, Option, Some, [], codes, false, fold, length, refl, ℕ, ◌%◌, ◌*◌, ◌+◌, ◌∷◌, ◌≡◌}
-use Rattle.rdf_terms.specs.CanonicalForm.{canonical_line}
-use Rattle.rdf_terms.specs.Dataset.{Dataset}
-use Rattle.rdf_terms.specs.Lists.{Text}
-use Rattle.rdf_terms.specs.Numeral.{digits_from_last, numeral}
-use Rattle.rdf_terms.specs.Terms.{Statement}
+use Rattle.rdf_terms.proofs.Common.{canonical_line, Dataset, Text, digits_from_last, numeral, Statement}
 use Rattle.rdf_terms.specs.declared.term.Term.{Term}
 use Rattle.rdf_terms.specs.declared.term.Term.TheVariants.{Blank, Iri}
 use Rattle.canon_model.specs.CountedRun.{Tie, counted_call, counted_run}
@@ -35,7 +32,8 @@ unfolding hash_first_degree_quads canonical_line numeral digits_from_last relate
 two_nodes = refl
 
 -- the same in two graphs
-two_graphs : counts (of 2 (quad 0 1 (Some (Iri (codes "http://e/g1"))) ∷ quad 0 1 (Some (Iri (codes "http://e/g2"))) ∷ quad 1 0 (Some (Iri (codes "http://e/g1"))) ∷ quad 1 0 (Some (Iri (codes "http://e/g2"))) ∷ [])) ≡ (12, 1)
+two_graphs : counts (of 2 (quad 0 1 (Some (Iri (codes "http://e/g1"))) ∷ quad 0 1 (Some (Iri (codes "http://e/g2"))) ∷ quad 1 0 (Some (Iri (codes "http://e/g1"))) ∷ quad 1 0
+    (Some (Iri (codes "http://e/g2"))) ∷ [])) ≡ (12, 1)
 unfolding hash_first_degree_quads canonical_line numeral digits_from_last related_entries related_hashes blank_node_list hash_related_blank_node counted_call
 two_graphs = refl
 
@@ -75,6 +73,7 @@ unfolding hash_first_degree_quads canonical_line numeral digits_from_last relate
 four_first_tie = refl
 
 -- each of five nodes points at each other
-complete_graph_of_five : counts (of 5 (quad 0 1 None ∷ quad 0 2 None ∷ quad 0 3 None ∷ quad 0 4 None ∷ quad 1 0 None ∷ quad 1 2 None ∷ quad 1 3 None ∷ quad 1 4 None ∷ quad 2 0 None ∷ quad 2 1 None ∷ quad 2 3 None ∷ quad 2 4 None ∷ quad 3 0 None ∷ quad 3 1 None ∷ quad 3 2 None ∷ quad 3 4 None ∷ quad 4 0 None ∷ quad 4 1 None ∷ quad 4 2 None ∷ quad 4 3 None ∷ [])) ≡ (4565, 119)
+complete_graph_of_five : counts (of 5 (quad 0 1 None ∷ quad 0 2 None ∷ quad 0 3 None ∷ quad 0 4 None ∷ quad 1 0 None ∷ quad 1 2 None ∷ quad 1 3 None ∷ quad 1 4 None ∷ quad 2 0 None ∷ quad 2 1 None
+    ∷ quad 2 3 None ∷ quad 2 4 None ∷ quad 3 0 None ∷ quad 3 1 None ∷ quad 3 2 None ∷ quad 3 4 None ∷ quad 4 0 None ∷ quad 4 1 None ∷ quad 4 2 None ∷ quad 4 3 None ∷ [])) ≡ (4565, 119)
 unfolding hash_first_degree_quads canonical_line numeral digits_from_last related_entries related_hashes blank_node_list hash_related_blank_node counted_call
 complete_graph_of_five = refl

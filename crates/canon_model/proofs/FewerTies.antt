@@ -1,15 +1,13 @@
 -- A call has fewer ties than units.
 use Rattle.std.proofs.Common.{List, None, Option, Some, [], ap, arith, cond, false, length, map, refl, suc, true, zero, Bool, ℕ, ◌+◌, ◌++◌, ◌≤◌, ◌∷◌, ◌≡◌}
 use Rattle.std.proofs.Common.{length-append}
-use Rattle.rdf_terms.specs.Dataset.{Dataset}
-use Rattle.rdf_terms.specs.Lists.{Text, is_before}
+use Rattle.rdf_terms.proofs.Common.{Dataset, Text, is_before, arrangements}
 use Rattle.std.specs.Str.{bytes_eq}
 use Rattle.canon_model.specs.CountedRun.{Chosen, Counted, CountedCall, Outcome, Tie, Trace, choose, chosen_text, counted_call, counted_call_within, counted_groups, counted_permutation, counted_permutations, counted_recursion, followed_by, is_skipped, issuer_or, logged, nothing, one_unit, path_or_none, skips, ties_of_chosen}
 use Rattle.canon_model.specs.Groups.{groups}
 use Rattle.canon_model.specs.Hashing.{Hashing}
 use Rattle.canon_model.specs.Recursion.{FewerTiesThanUnits}
 use Rattle.canon_model.specs.Walk.{issuer_copy_after, path_of_identifiers, path_of_result, recursion_list}
-use Rattle.rdf_terms.specs.Arrangements.{arrangements}
 
 abbrev NoMore : Trace → Type 0
 NoMore t = length t.ties ≤ t.units
@@ -27,7 +25,8 @@ others-choose (Some chosen) None = omega arith
 others-choose None (Some o) = omega arith
 others-choose (Some chosen) (Some o) = by (is_before o.text chosen.path) (bytes_eq o.text chosen.path)
   where
-    by : (s t : Bool) → others (cond s (Some (record { path = o.text; issuer = o.issuer; others = [] })) (cond t (Some (record { path = chosen.path; issuer = chosen.issuer; others = chosen.others ++ o.issuer ∷ [] })) (Some chosen))) ≤ suc (suc (length chosen.others))
+    by : (s t : Bool) → others (cond s (Some (record { path = o.text; issuer = o.issuer; others = [] }))
+        (cond t (Some (record { path = chosen.path; issuer = chosen.issuer; others = chosen.others ++ o.issuer ∷ [] })) (Some chosen))) ≤ suc (suc (length chosen.others))
     by true t = omega arith
     by false true = let e = length-append chosen.others (o.issuer ∷ []) in omega arith
     by false false = omega arith

@@ -1,10 +1,6 @@
 -- Results of the counted run whose start nodes are new when the run comes to them may be issued for first.
 use Rattle.std.proofs.Common.{Bool, List, [], ap, false, inl, inr, map, refl, subst, sym, true, true≢false, ℕ, ◌++◌, ◌∙◌, ◌∷◌, ◌≡◌, ◌⊎◌}
-use Rattle.rdf_terms.proofs.Membership.{In-append, In-append_right, In-map}
-use Rattle.rdf_terms.proofs.Permutations.{In-Permutes}
-use Rattle.rdf_terms.proofs.TextOrder.{is_before-irrefl}
-use Rattle.rdf_terms.specs.Dataset.{Dataset, IsValid}
-use Rattle.rdf_terms.specs.Lists.{In, Text, is_before}
+use Rattle.rdf_terms.proofs.Common.{In-append, In-append_right, In-map, In-Permutes, is_before-irrefl, Dataset, IsValid, In, Text, is_before}
 use Rattle.canon_model.specs.Allowed.{AreAscending, HashPathResult, IssuesForHashes, issue_results, issued_for_unique_hashes, unissued_nodes}
 use Rattle.canon_model.specs.CountedRun.{counted_results, result_of}
 use Rattle.canon_model.specs.FirstDegree.{hash_first_degree_quads}
@@ -36,7 +32,8 @@ module _ (ρ : Hashing) (D : Dataset) (valid : IsValid D) (c : List ℕ) (left r
     before = t.before;
     behind = t.behind;
     hashes_are = t.hashes_are;
-    issued = subst (IssuesForHashes ρ D t.before (issued_for_unique_hashes ρ D)) (sym t.canonical_is) (counted_hashes-issue ρ D valid t.before (issued_for_unique_hashes ρ D) (unique_hashes-canonical ρ D));
+    issued =
+        subst (IssuesForHashes ρ D t.before (issued_for_unique_hashes ρ D)) (sym t.canonical_is) (counted_hashes-issue ρ D valid t.before (issued_for_unique_hashes ρ D) (unique_hashes-canonical ρ D));
   }
 
   canonical : AreCanonical D c
@@ -49,7 +46,8 @@ module _ (ρ : Hashing) (D : Dataset) (valid : IsValid D) (c : List ℕ) (left r
   y = from_start ρ D valid c canonical t.class right (subst (In right) (sym t.results_are) (In-append_right t.issued (left ∷ t.others) right (inr t.right_there)))
 
   -- a result that lists one of the start nodes has not been issued for, so its hash is not lesser
-  not_lesser : (z : ℕ) → In z (unissued_nodes ρ D c t.class) → (j : List ℕ) (start : ℕ) → IsComponent D (are_quads D valid) c start j → In z j → is_issued start (issue_results c t.issued) ≡ false → HasOutcomeFrom ρ D c left.hash z
+  not_lesser : (z : ℕ) → In z (unissued_nodes ρ D c t.class) → (j : List ℕ) (start : ℕ) → IsComponent D (are_quads D valid) c start j → In z j → is_issued start (issue_results c t.issued) ≡ false
+      → HasOutcomeFrom ρ D c left.hash z
   not_lesser z i j start p h new = record {
     own_hash = (result_of ρ D c z).hash;
     issuer = (result_of ρ D c z).issuer;

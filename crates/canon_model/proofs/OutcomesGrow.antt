@@ -1,7 +1,6 @@
 -- The issuer that any outcome returns begins with the one passed in, and has issued for each node once.
 use Rattle.std.proofs.Common.{List, [], ap, append-nil, append_assoc, refl, subst, suc, sym, zero, ℕ, ◌++◌, ◌∙◌, ◌∷◌}
-use Rattle.rdf_terms.specs.Dataset.{Dataset}
-use Rattle.rdf_terms.specs.Lists.{Text}
+use Rattle.rdf_terms.proofs.Common.{Dataset, Text}
 use Rattle.canon_model.specs.Groups.{groups}
 use Rattle.canon_model.specs.Outcome.{ChosenPath, DataToHash, NDegreeWithin}
 use Rattle.canon_model.specs.Hashing.{Hashing}
@@ -23,18 +22,22 @@ module _ (c : List ℕ) where
         grows_trans i (issuer_copy_after c i p) j g (recursion_results-grows (recursion_list c i p) (issuer_copy_after c i p) w.results j g.1 w.calls)
 
     pub chosen_path-grows : (nodes i : List ℕ) (π : Text) (j : List ℕ) → AreOnce i → ChosenPath R c nodes i π j → Grows i j
-    chosen_path-grows nodes i π j d w = subst (Grows i) (sym w.issuer_is) (permutation_path-grows i w.chosen (w.paths.path w.chosen) (w.paths.issuer w.chosen) d (w.paths.walks w.chosen w.is_least.permutes))
+    chosen_path-grows nodes i π j d w =
+        subst (Grows i) (sym w.issuer_is) (permutation_path-grows i w.chosen (w.paths.path w.chosen) (w.paths.issuer w.chosen) d (w.paths.walks w.chosen w.is_least.permutes))
 
     pub data_to_hash-grows : (nodes : Text → List ℕ) (hs : List Text) (i : List ℕ) (s : Text) (j : List ℕ) → AreOnce i → DataToHash R c nodes hs i s j → Grows i j
     data_to_hash-grows nodes [] i s j d w = subst (Grows i) (sym w.1) (begins_refl i, d)
-    data_to_hash-grows nodes (h ∷ hs) i s j d w = let g = chosen_path-grows (nodes h) i w.path w.issuer d w.chosen_path in grows_trans i w.issuer j g (data_to_hash-grows nodes hs w.issuer w.rest j g.1 w.following)
+    data_to_hash-grows nodes (h ∷ hs) i s j d w =
+        let g = chosen_path-grows (nodes h) i w.path w.issuer d w.chosen_path in grows_trans i w.issuer j g (data_to_hash-grows nodes hs w.issuer w.rest j g.1 w.following)
 
   pub n_degree_within-grows : (ρ : Hashing) (D : Dataset) (k : ℕ) → AllGrow (NDegreeWithin k ρ D c)
   n_degree_within-grows ρ D zero m i h j d w = absurd w
-  n_degree_within-grows ρ D (suc k) m i h j d w = data_to_hash-grows (NDegreeWithin k ρ D c) (n_degree_within-grows ρ D k) (groups ρ D c i m).nodes (groups ρ D c i m).hashes i w.text j d w.data_to_hash
+  n_degree_within-grows ρ D (suc k) m i h j d w =
+      data_to_hash-grows (NDegreeWithin k ρ D c) (n_degree_within-grows ρ D k) (groups ρ D c i m).nodes (groups ρ D c i m).hashes i w.text j d w.data_to_hash
 
 -- one more group
-pub data_to_hash-push : (R : CallRelation) (c : List ℕ) (nodes : Text → List ℕ) (before : List Text) (h : Text) (i : List ℕ) (s : Text) (k : List ℕ) (π : Text) (j : List ℕ) → DataToHash R c nodes before i s k → ChosenPath R c (nodes h) k π j → DataToHash R c nodes (before ++ h ∷ []) i (s ++ (h ++ π)) j
+pub data_to_hash-push : (R : CallRelation) (c : List ℕ) (nodes : Text → List ℕ) (before : List Text) (h : Text) (i : List ℕ) (s : Text) (k : List ℕ) (π : Text) (j : List ℕ)
+    → DataToHash R c nodes before i s k → ChosenPath R c (nodes h) k π j → DataToHash R c nodes (before ++ h ∷ []) i (s ++ (h ++ π)) j
 data_to_hash-push R c nodes [] h i s k π j w f = record {
   path = π;
   issuer = j;

@@ -1,12 +1,8 @@
 -- The counted run does not see the order of the quads.
-use Rattle.std.proofs.Common.{List, flat_map, None, Option, Some, [], ap, filter, map, map-id, refl, subst, suc, sym, zero, ℕ, ◌++◌, ◌∙◌, ◌∷◌, ◌≡◌}
-use Rattle.rdf_terms.proofs.Permutations.{Permutes-from_equal, Permutes-sym}
-use Rattle.rdf_terms.specs.Dataset.{Dataset}
-use Rattle.rdf_terms.specs.Isomorphism.{Carries, relabel_graph_name, relabel_statement, relabel_term}
-use Rattle.rdf_terms.specs.Lists.{Permutes, Text, numbers_below, permutes_trans, sorted}
-use Rattle.rdf_terms.specs.Terms.{Statement}
-use Rattle.rdf_terms.specs.declared.term.Term.{Term}
-use Rattle.rdf_terms.specs.declared.term.Term.TheVariants.{Blank, Iri, Literal}
+use Rattle.canon_model.proofs.Maps.{map_identity}
+use Rattle.canon_model.proofs.Symmetries.{relabel_statement-identity}
+use Rattle.std.proofs.Common.{List, flat_map, None, [], ap, filter, map, map-id, refl, subst, suc, sym, zero, ℕ, ◌++◌, ◌∙◌, ◌∷◌, ◌≡◌}
+use Rattle.rdf_terms.proofs.Common.{Permutes-from_equal, Permutes-sym, Dataset, Carries, relabel_statement, Permutes, Text, numbers_below, permutes_trans, sorted, arrangements}
 use Rattle.std.specs.Str.{bytes_eq}
 use Rattle.canon_model.specs.Allowed.{HashPathResult, first_degree_hashes, has_no_canonical, issue_results, issued_for_unique_hashes, nodes_with_hash, single, unissued_nodes}
 use Rattle.canon_model.specs.CountedRun.{Counted, CountedCall, Outcome, Trace, after, counted_call, counted_call_within, counted_groups, counted_hashes, counted_permutations, counted_results, counted_run, followed_by, issuer_or, logged, one_unit, path_or_none, result_of, sort_results, ties_of_chosen, ties_of_results, trace_of_starts}
@@ -18,36 +14,21 @@ use Rattle.canon_model.specs.QuadOrder.{CountedRunOfQuads, HaveSameQuads}
 use Rattle.canon_model.proofs.Relabel.{hash_first_degree_quads-relabel, related_entries-relabel, relabel_entry}
 use Rattle.canon_model.proofs.RelabelGroups.{blank_node_list-relabel, related_hashes-relabel}
 use Rattle.canon_model.proofs.StrictlyAscending.{arrangements_are_all}
-use Rattle.rdf_terms.specs.Arrangements.{arrangements}
 
 -- ---- the identity as a relabelling
 
 same : ℕ → ℕ
 same = λ x. x
 
-term_is : (t : Term) → relabel_term (λ x. x) t ≡ t
-term_is (Iri t) = refl
-term_is (Blank n) = refl
-term_is (Literal l) = refl
-
-graph_name_is : (t : Option Term) → relabel_graph_name (λ x. x) t ≡ t
-graph_name_is None = refl
-graph_name_is (Some t) = ap Some (term_is t)
-
-statement_is : (st : Statement) → relabel_statement (λ x. x) st ≡ st
-statement_is st = λ k. record { subject = term_is st.subject k; predicate = term_is st.predicate k; object = term_is st.object k; graph_name = graph_name_is st.graph_name k }
-
-statements_are : (sts : List Statement) → map (relabel_statement (λ x. x)) sts ≡ sts
-statements_are [] = refl
-statements_are (st ∷ sts) = λ k. statement_is st k ∷ statements_are sts k
-
 carries : (D E : Dataset) → HaveSameQuads D E → Carries (λ x. x) D E
-carries D E s = record { nodes = s.nodes; statements = permutes_trans (Permutes-from_equal (statements_are D.statements)) s.statements }
+carries D E s = record { nodes = s.nodes; statements = permutes_trans (Permutes-from_equal (map_identity (relabel_statement (λ x. x)) relabel_statement-identity D.statements)) s.statements }
 
 -- ---- arrangements
 
 arrangements-same : {xs ys : List ℕ} → Permutes xs ys → arrangements ys ≡ arrangements xs
-arrangements-same {xs} {ys} p = sym ((arrangements_are_all ys).unique (arrangements xs) (arrangements_are_all xs).ascending (λ q. ((λ h. permutes_trans (Permutes-sym p) (((arrangements_are_all xs).all q).0 h)), (λ h. ((arrangements_are_all xs).all q).1 (permutes_trans p h)))))
+arrangements-same {xs} {ys} p =
+    sym ((arrangements_are_all ys).unique (arrangements xs) (arrangements_are_all xs).ascending
+    (λ q. ((λ h. permutes_trans (Permutes-sym p) (((arrangements_are_all xs).all q).0 h)), (λ h. ((arrangements_are_all xs).all q).1 (permutes_trans p h)))))
 
 -- ---- one call
 
@@ -56,17 +37,25 @@ module _ (ρ : Hashing) (D E : Dataset) (s : HaveSameQuads D E) where
   first_degree-same = λ k n. hash_first_degree_quads-relabel (λ x. x) (λ x y. refl) ρ (carries D E s) n k
 
   entries-same : (c i : List ℕ) (n : ℕ) → Permutes (map (relabel_entry (λ x. x)) (related_entries ρ D c i n)) (related_entries ρ E c i n)
-  entries-same c i n = subst (λ v. Permutes (map (relabel_entry (λ x. x)) (related_entries ρ D c i n)) (related_entries ρ E v i n)) (map-id c) (subst (λ v. Permutes (map (relabel_entry (λ x. x)) (related_entries ρ D c i n)) (related_entries ρ E (map (λ x. x) c) v n)) (map-id i) (related_entries-relabel (λ x. x) (λ x y. refl) ρ (carries D E s) c i n))
+  entries-same c i n =
+      subst (λ v. Permutes (map (relabel_entry (λ x. x)) (related_entries ρ D c i n)) (related_entries ρ E v i n)) (map-id c)
+      (subst (λ v. Permutes (map (relabel_entry (λ x. x)) (related_entries ρ D c i n)) (related_entries ρ E (map (λ x. x) c) v n)) (map-id i)
+      (related_entries-relabel (λ x. x) (λ x y. refl) ρ (carries D E s) c i n))
 
   hashes-same : (c i : List ℕ) (n : ℕ) → (groups ρ E c i n).hashes ≡ (groups ρ D c i n).hashes
   hashes-same c i n = related_hashes-relabel (λ x. x) (λ x y. refl) (related_entries ρ D c i n) (related_entries ρ E c i n) (entries-same c i n)
 
   nodes-same : (c i : List ℕ) (n : ℕ) (h : Text) → arrangements ((groups ρ E c i n).nodes h) ≡ arrangements ((groups ρ D c i n).nodes h)
-  nodes-same c i n h = arrangements-same (subst (λ v. Permutes v (blank_node_list ρ (related_entries ρ E c i n) h)) (map-id (blank_node_list ρ (related_entries ρ D c i n) h)) (blank_node_list-relabel (λ x. x) (λ x y. refl) ρ (related_entries ρ D c i n) (related_entries ρ E c i n) (entries-same c i n) h))
+  nodes-same c i n h =
+      arrangements-same (subst (λ v. Permutes v (blank_node_list ρ (related_entries ρ E c i n) h)) (map-id (blank_node_list ρ (related_entries ρ D c i n) h))
+      (blank_node_list-relabel (λ x. x) (λ x y. refl) ρ (related_entries ρ D c i n) (related_entries ρ E c i n) (entries-same c i n) h))
 
-  counted_groups-same : (call : CountedCall) (c : List ℕ) (nodes others : Text → List ℕ) → ((h : Text) → arrangements (others h) ≡ arrangements (nodes h)) → (hs : List Text) (i : List ℕ) → counted_groups call c others hs i ≡ counted_groups call c nodes hs i
+  counted_groups-same : (call : CountedCall) (c : List ℕ) (nodes others : Text → List ℕ) → ((h : Text) → arrangements (others h) ≡ arrangements (nodes h)) → (hs : List Text) (i : List ℕ)
+      → counted_groups call c others hs i ≡ counted_groups call c nodes hs i
   counted_groups-same call c nodes others p [] i = refl
-  counted_groups-same call c nodes others p (h ∷ hs) i = ap (λ ps. built others ps) (p h) ∙ ap (λ run. put run (arrangements (nodes h))) (counted_groups-same call c nodes others p hs (issuer_or (counted_permutations call None c i (arrangements (nodes h))).value i))
+  counted_groups-same call c nodes others p (h ∷ hs) i =
+      ap (λ ps. built others ps) (p h) ∙ ap (λ run. put run (arrangements (nodes h))) (counted_groups-same call c nodes others p hs
+      (issuer_or (counted_permutations call None c i (arrangements (nodes h))).value i))
     where
       put : Counted Outcome → List (List ℕ) → Counted Outcome
       put rest ps =
@@ -83,7 +72,9 @@ module _ (ρ : Hashing) (D E : Dataset) (s : HaveSameQuads D E) where
   counted_call_within-same zero c = refl
   counted_call_within-same (suc depth) c = λ k n i. made (runs (counted_call_within-same depth c) n i k)
     where
-      runs : counted_call_within depth ρ E c ≡ counted_call_within depth ρ D c → (n : ℕ) (i : List ℕ) → counted_groups (counted_call_within depth ρ E c) c (groups ρ E c i n).nodes (groups ρ E c i n).hashes i ≡ counted_groups (counted_call_within depth ρ D c) c (groups ρ D c i n).nodes (groups ρ D c i n).hashes i
+      runs : counted_call_within depth ρ E c ≡ counted_call_within depth ρ D c → (n : ℕ) (i : List ℕ)
+          → counted_groups (counted_call_within depth ρ E c) c (groups ρ E c i n).nodes (groups ρ E c i n).hashes i ≡ counted_groups (counted_call_within depth ρ D c) c (groups ρ D c i n).nodes
+          (groups ρ D c i n).hashes i
       runs e n i = ap (λ call. counted_groups call c (groups ρ E c i n).nodes (groups ρ E c i n).hashes i) e
           ∙ (ap (λ hs. counted_groups (counted_call_within depth ρ D c) c (groups ρ E c i n).nodes hs i) (hashes-same c i n)
           ∙ counted_groups-same (counted_call_within depth ρ D c) c (groups ρ D c i n).nodes (groups ρ E c i n).nodes (nodes-same c i n) (groups ρ D c i n).hashes i)

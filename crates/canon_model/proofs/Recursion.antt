@@ -1,7 +1,6 @@
 -- Hash N-Degree Quads over itself: calls of a valid call are valid, so any bound on their depth may be left out.
 use Rattle.std.proofs.Common.{List, ap, arith, suc, true, ℕ, ◌≡◌}
-use Rattle.rdf_terms.specs.Dataset.{Dataset, IsValid}
-use Rattle.rdf_terms.specs.Lists.{Text}
+use Rattle.rdf_terms.proofs.Common.{Dataset, IsValid, Text}
 use Rattle.canon_model.specs.CountedRun.{Counted, Outcome, counted_call, counted_call_within, followed_by, one_unit}
 use Rattle.canon_model.specs.Groups.{groups}
 use Rattle.canon_model.specs.Issuer.{IsValidCall, is_issued}
@@ -38,7 +37,7 @@ module _ (ρ : Hashing) (D : Dataset) (c : List ℕ) (n : ℕ) (i : List ℕ) (v
   }
 
   deeper : (m : ℕ) (k : List ℕ) → is_issued m k ≡ true → Fits ρ D c (mentions_nodes D valid) D.nodes k → Fits ρ D c (mentions_nodes D valid) (suc D.nodes) k
-  deeper m k hm f = record { distinct = f.distinct; below = f.below; apart = f.apart; room = let r = f.room in omega arith }
+  deeper m k hm f = record { distinct = f.distinct; below = f.below; apart = f.apart; deep = let r = f.deep in omega arith }
 
   outward : IsWithin ρ D c (mentions_nodes D valid) D.nodes (NDegreeWithin D.nodes ρ D c) (HashNDegreeQuads ρ D c)
   outward m k h j hm f w = record {
@@ -51,7 +50,9 @@ module _ (ρ : Hashing) (D : Dataset) (c : List ℕ) (n : ℕ) (i : List ℕ) (v
     valid = v;
     outcome = record {
       text = w.text;
-      data_to_hash = data_to_hash-more ρ D c (mentions_nodes D valid) D.nodes (HashNDegreeQuads ρ D c) (NDegreeWithin D.nodes ρ D c) (hash_n_degree_quads-covers D c ρ) grows inward (groups ρ D c i n).nodes (nodes_of_groups ρ D c (mentions_nodes D valid) i n) (groups ρ D c i n).hashes i w.text j fits w.data_to_hash;
+      data_to_hash =
+          data_to_hash-more ρ D c (mentions_nodes D valid) D.nodes (HashNDegreeQuads ρ D c) (NDegreeWithin D.nodes ρ D c) (hash_n_degree_quads-covers D c ρ) grows inward (groups ρ D c i n).nodes
+          (nodes_of_groups ρ D c (mentions_nodes D valid) i n) (groups ρ D c i n).hashes i w.text j fits w.data_to_hash;
       hash_is = w.hash_is;
     };
   }
@@ -59,7 +60,10 @@ module _ (ρ : Hashing) (D : Dataset) (c : List ℕ) (n : ℕ) (i : List ℕ) (v
   from_outcome : (h : Text) (j : List ℕ) → HashNDegreeQuads ρ D c n i h j → NDegreeStep (HashNDegreeQuads ρ D c) ρ D c n i h j
   from_outcome h j w = record {
     text = w.outcome.text;
-    data_to_hash = data_to_hash-more ρ D c (mentions_nodes D valid) D.nodes (NDegreeWithin D.nodes ρ D c) (HashNDegreeQuads ρ D c) (n_degree_within-covers D c ρ D.nodes) (n_degree_within-grows c ρ D D.nodes) outward (groups ρ D c i n).nodes (nodes_of_groups ρ D c (mentions_nodes D valid) i n) (groups ρ D c i n).hashes i w.outcome.text j fits w.outcome.data_to_hash;
+    data_to_hash =
+        data_to_hash-more ρ D c (mentions_nodes D valid) D.nodes (NDegreeWithin D.nodes ρ D c) (HashNDegreeQuads ρ D c) (n_degree_within-covers D c ρ D.nodes)
+        (n_degree_within-grows c ρ D D.nodes) outward (groups ρ D c i n).nodes (nodes_of_groups ρ D c (mentions_nodes D valid) i n)
+        (groups ρ D c i n).hashes i w.outcome.text j fits w.outcome.data_to_hash;
     hash_is = w.outcome.hash_is;
   }
 
@@ -67,7 +71,9 @@ module _ (ρ : Hashing) (D : Dataset) (c : List ℕ) (n : ℕ) (i : List ℕ) (v
   returned h j w =
       let g = grows n i h j fits.distinct w in
       record {
-        valid = call_is_valid (suc D.nodes) n j (is_issued-begins n i j g.0 issued) (fits_after_call ρ D c (mentions_nodes D valid) (suc D.nodes) n i j g (hash_n_degree_quads-covers D c ρ n i h j issued w) fits);
+        valid =
+            call_is_valid (suc D.nodes) n j (is_issued-begins n i j g.0 issued) (fits_after_call ρ D c (mentions_nodes D valid) (suc D.nodes) n i j g
+            (hash_n_degree_quads-covers D c ρ n i h j issued w) fits);
         begins = g.0;
       }
 

@@ -2,10 +2,7 @@
 use Rattle.std.proofs.Common.{Bool, List, [], ap, cond, false, inl, inr, map, refl, subst, sym, true, ℕ, ◌++◌, ◌∙◌, ◌∷◌, ◌≡◌}
 use Rattle.std.specs.Cmp.Lexicographic.{bytes_decides}
 use Rattle.std.specs.Str.{bytes_eq}
-use Rattle.rdf_terms.proofs.Membership.{from_In-map}
-use Rattle.rdf_terms.proofs.Permutations.{In-Permutes, Permutes-sym}
-use Rattle.rdf_terms.specs.Dataset.{Dataset, IsValid}
-use Rattle.rdf_terms.specs.Lists.{In, Text}
+use Rattle.rdf_terms.proofs.Common.{from_In-map, In-Permutes, Permutes-sym, Dataset, IsValid, In, Text}
 use Rattle.canon_model.specs.Allowed.{HashPathResult, first_degree_hashes, issue_results, issued_for_unique_hashes, unissued_nodes}
 use Rattle.canon_model.specs.CountedRun.{counted_hashes, counted_results, counted_start, result_of, ties_of_results, ties_with, trace_of_starts}
 use Rattle.canon_model.specs.Laws.{TiesOfRunAreTied}
@@ -33,7 +30,8 @@ module _ (ρ : Hashing) (D : Dataset) (valid : IsValid D) where
     pub from_start : (r : HashPathResult) → In r (counted_results ρ D c h) → (x : ℕ) × In x (unissued_nodes ρ D c h) × (r ≡ result_of ρ D c x)
     from_start r i = from_In-map (result_of ρ D c) (unissued_nodes ρ D c h) r (In-Permutes r (Permutes-sym (sort_results-permutes (map (result_of ρ D c) (unissued_nodes ρ D c h)))) i)
 
-    pair-tied : (x y : ℕ) → In x (unissued_nodes ρ D c h) → In y (unissued_nodes ρ D c h) → (result_of ρ D c x).hash ≡ (result_of ρ D c y).hash → AreTiedResults ρ D c [] (result_of ρ D c x).issuer (result_of ρ D c y).issuer
+    pair-tied : (x y : ℕ) → In x (unissued_nodes ρ D c h) → In y (unissued_nodes ρ D c h) → (result_of ρ D c x).hash ≡ (result_of ρ D c y).hash
+        → AreTiedResults ρ D c [] (result_of ρ D c x).issuer (result_of ρ D c y).issuer
     pair-tied x y i j e = record {
       none_passed = refl;
       left_start = x;
@@ -44,16 +42,19 @@ module _ (ρ : Hashing) (D : Dataset) (valid : IsValid D) where
       right_outcome = subst (λ w. HashNDegreeQuads ρ D c y (y ∷ []) w (result_of ρ D c y).issuer) (sym e) (outcome_of_start ρ D valid c k h y j);
     }
 
-    pair-tie : (x y : ℕ) → In x (unissued_nodes ρ D c h) → In y (unissued_nodes ρ D c h) → (result_of ρ D c x).hash ≡ (result_of ρ D c y).hash → IsTie ρ D (record { canonical = c; passed = []; left = (result_of ρ D c x).issuer; right = (result_of ρ D c y).issuer })
+    pair-tie : (x y : ℕ) → In x (unissued_nodes ρ D c h) → In y (unissued_nodes ρ D c h) → (result_of ρ D c x).hash ≡ (result_of ρ D c y).hash
+        → IsTie ρ D (record { canonical = c; passed = []; left = (result_of ρ D c x).issuer; right = (result_of ρ D c y).issuer })
     pair-tie x y i j e =
         let t = pair-tied x y i j e in
         record { tied = inl t; may_be_exchanged = tied_results-exchanged ρ D (mentions_nodes D valid) (are_quads D valid) c [] (result_of ρ D c x).issuer (result_of ρ D c y).issuer t }
 
-    ties_with-ties : (f : HashPathResult) (rs : List HashPathResult) → In f (counted_results ρ D c h) → ((r : HashPathResult) → In r rs → In r (counted_results ρ D c h)) → AreTies ρ D (ties_with c f rs)
+    ties_with-ties : (f : HashPathResult) (rs : List HashPathResult) → In f (counted_results ρ D c h) → ((r : HashPathResult) → In r rs → In r (counted_results ρ D c h))
+        → AreTies ρ D (ties_with c f rs)
     ties_with-ties f [] fi sub = are_ties-none ρ D
     ties_with-ties f (r ∷ rs) fi sub = by (bytes_eq f.hash r.hash) refl (ties_with-ties f rs fi (λ q g. sub q (inr g))) (ties_with-ties r rs (sub r (inl refl)) (λ q g. sub q (inr g)))
       where
-        by : (t : Bool) → bytes_eq f.hash r.hash ≡ t → AreTies ρ D (ties_with c f rs) → AreTies ρ D (ties_with c r rs) → AreTies ρ D (cond t (record { canonical = c; passed = []; left = f.issuer; right = r.issuer } ∷ ties_with c f rs) (ties_with c r rs))
+        by : (t : Bool) → bytes_eq f.hash r.hash ≡ t → AreTies ρ D (ties_with c f rs) → AreTies ρ D (ties_with c r rs)
+            → AreTies ρ D (cond t (record { canonical = c; passed = []; left = f.issuer; right = r.issuer } ∷ ties_with c f rs) (ties_with c r rs))
         by true e u v t (inr g) = u t g
         by true e u v t (inl g) =
             let a = from_start f fi in

@@ -1,10 +1,6 @@
 -- A tie is joined exactly where some symmetry carries its left list to its right one.
 use Rattle.std.proofs.Common.{Bool, List, Some, [], ap, cond, eqb, eqb-true, false, inl, inr, length, map, refl, subst, sym, true, true≢false, ℕ, ◌++◌, ◌||◌, ◌∙◌, ◌∷◌, ◌≡◌, ◌⊎◌}
-use Rattle.rdf_terms.proofs.Membership.{In-append, In-append_left, In-append_right}
-use Rattle.rdf_terms.specs.CanonicalForm.{after_first, place_of}
-use Rattle.rdf_terms.specs.Dataset.{Dataset, IsValid}
-use Rattle.rdf_terms.specs.Isomorphism.{Symmetry}
-use Rattle.rdf_terms.specs.Lists.{AreDistinct, In}
+use Rattle.rdf_terms.proofs.Common.{In-append, In-append_left, In-append_right, after_first, place_of, Dataset, IsValid, Symmetry, AreDistinct, In, map-map}
 use Rattle.canon_model.specs.Coverage.{Reached, ShareQuad, onward}
 use Rattle.canon_model.specs.Issuer.{is_issued}
 use Rattle.canon_model.specs.Laws.{IsGlued, IsPart}
@@ -13,7 +9,7 @@ use Rattle.canon_model.specs.Ties.{AreTied, IsJoined, MayBeExchanged, exchange, 
 use Rattle.canon_model.specs.TieSymmetry.{IsCarried, JoinedWhereSymmetric}
 use Rattle.canon_model.proofs.Coverage.{Reaches, walk-reaches}
 use Rattle.canon_model.proofs.Exchange.{node_at-next}
-use Rattle.canon_model.proofs.ExchangeSymmetry.{append_split, place_of-outside}
+use Rattle.canon_model.proofs.ExchangeSymmetry.{append_split, exchange-behind, exchange-outside}
 use Rattle.canon_model.proofs.Gluing.{gluing}
 use Rattle.canon_model.proofs.Issuers.{In-from_is_issued, are_once-apart, are_once_from_distinct, is_issued-from_In, is_issued-from_not_In, map_fixed, not_In-from_is_issued}
 use Rattle.canon_model.proofs.LocalSymmetry.{are_quads}
@@ -23,7 +19,6 @@ use Rattle.canon_model.proofs.Symmetries.{Linked, joined-linked}
 use Rattle.canon_model.proofs.TiedLists.{tied_may_be_exchanged}
 use Rattle.canon_model.proofs.Totality.{mentions_nodes}
 use Rattle.std.proofs.lemmas.List.{length-map, map-append}
-use Rattle.rdf_terms.proofs.MadeLists.{map-map}
 
 -- ---- the exchange of a list for its image
 
@@ -31,12 +26,10 @@ place-map : (f : ℕ → ℕ) (l : List ℕ) (x d : ℕ) → is_issued x l ≡ t
 place-map f [] x d h = absurd (true≢false (sym h))
 place-map f (y ∷ l) x d h = by (eqb y x) refl h (place-map f l x d)
   where
-    by : (t : Bool) → eqb y x ≡ t → (t || is_issued x l) ≡ true → (is_issued x l ≡ true → node_at (place_of l x) (map f l) d ≡ f x) → node_at (cond t (Some 0) (after_first (place_of l x))) (f y ∷ map f l) d ≡ f x
+    by : (t : Bool) → eqb y x ≡ t → (t || is_issued x l) ≡ true → (is_issued x l ≡ true → node_at (place_of l x) (map f l) d ≡ f x)
+        → node_at (cond t (Some 0) (after_first (place_of l x))) (f y ∷ map f l) d ≡ f x
     by true q r ih = ap f (eqb-true y x q)
     by false q r ih = node_at-next (place_of l x) (f y) (map f l) d ∙ ih r
-
-place-outside : (l m : List ℕ) (x d : ℕ) → is_issued x l ≡ false → node_at (place_of l x) m d ≡ d
-place-outside l m x d h = ap (λ o. node_at o m d) (place_of-outside x l h)
 
 place-back : (f g : ℕ → ℕ) → ((x : ℕ) → g (f x) ≡ x) → (l : List ℕ) (x d : ℕ) → is_issued x (map f l) ≡ true → node_at (place_of (map f l) x) l d ≡ g x
 place-back f g e l x d h = subst (λ w. node_at (place_of (map f l) x) w d ≡ g x) (map-map g f l ∙ map_identity (λ y. g (f y)) e l) (place-map g (map f l) x d h)
@@ -45,10 +38,7 @@ exchange-left : (f : ℕ → ℕ) (l : List ℕ) (x : ℕ) → is_issued x l ≡
 exchange-left f l x h = place-map f l x (node_at (place_of (map f l) x) l x) h
 
 exchange-right : (f g : ℕ → ℕ) → ((x : ℕ) → g (f x) ≡ x) → (l : List ℕ) (x : ℕ) → is_issued x l ≡ false → is_issued x (map f l) ≡ true → exchange l (map f l) x ≡ g x
-exchange-right f g e l x h k = place-outside l (map f l) x (node_at (place_of (map f l) x) l x) h ∙ place-back f g e l x x k
-
-exchange-elsewhere : (l m : List ℕ) (x : ℕ) → is_issued x l ≡ false → is_issued x m ≡ false → exchange l m x ≡ x
-exchange-elsewhere l m x h k = place-outside l m x (node_at (place_of m x) l x) h ∙ place-outside m l x x k
+exchange-right f g e l x h k = exchange-behind l (map f l) x h ∙ place-back f g e l x x k
 
 -- ---- the symmetry is cut down to the left tail, and glued
 
@@ -64,7 +54,9 @@ module _ (D : Dataset) (valid : IsValid D) (c i l m : List ℕ) (e : MayBeExchan
   from = s.symmetry.relabelling.from
 
   tail_is : e.right_tail ≡ map s.symmetry.relabelling.to e.left_tail
-  tail_is = (append_split i e.right_tail i (map to e.left_tail) refl (sym e.right_is ∙ s.right_is ∙ ap (map to) e.left_is ∙ map-append to i e.left_tail ∙ ap (λ w. w ++ map to e.left_tail) (map_fixed to i (λ x h. s.fixes_passed x (In-from_is_issued x i h))))).1
+  tail_is =
+      (append_split i e.right_tail i (map to e.left_tail) refl (sym e.right_is ∙ s.right_is ∙ ap (map to) e.left_is ∙ map-append to i e.left_tail
+      ∙ ap (λ w. w ++ map to e.left_tail) (map_fixed to i (λ x h. s.fixes_passed x (In-from_is_issued x i h))))).1
 
   apart_left : (x : ℕ) → In x i → ¬ (In x e.left_tail)
   apart_left = are_once-apart i e.left_tail (are_once_from_distinct (i ++ e.left_tail) (subst AreDistinct e.left_is e.left_once))
@@ -119,14 +111,14 @@ module _ (D : Dataset) (valid : IsValid D) (c i l m : List ℕ) (e : MayBeExchan
       by false h true k = on_right h k (In-append i e.right_tail x (subst (In x) (sym s.right_is ∙ e.right_is) (In-from_is_issued x (map to l) k)))
       by false h false k =
           glued.1.elsewhere x (outside h) (λ a. not_In-from_is_issued x (map to l) k (subst (In x) (sym e.right_is ∙ s.right_is) (In-append_right i e.right_tail x (subst (In x) (sym tail_is) a))))
-          ∙ sym (exchange-elsewhere l (map to l) x h k)
+          ∙ sym (exchange-outside l (map to l) x h k)
 
   pub carried-joined : IsJoined D c l m
   carried-joined = record {
     as_long = sym (length-map l to) ∙ ap length (sym s.right_is);
     symmetry = glued.0;
     is_exchange = is_exchange;
-    fixes_canonical = λ x h. exchange-elsewhere l m x (is_issued-from_not_In x l (λ a. e.left_apart x a h)) (is_issued-from_not_In x m (λ a. e.right_apart x a h));
+    fixes_canonical = λ x h. exchange-outside l m x (is_issued-from_not_In x l (λ a. e.left_apart x a h)) (is_issued-from_not_In x m (λ a. e.right_apart x a h));
   }
 
 -- ---- tied outcomes are closed
@@ -144,7 +136,8 @@ tied-closed ρ D valid c i l m (inl t) x y h n q f =
     let k = component_of_outcome ρ D (mentions_nodes D valid) (are_quads D valid) c t.left_start t.hash l t.left_outcome in
     In-from_is_issued y l (k.closed x (is_issued-from_In x l h) (k.free x (is_issued-from_In x l h)) y q f)
 tied-closed ρ D valid c i l m (inr t) x y h n q f =
-    let w : IsClosedBehind D c i (t.paths.issuer t.first) = reaches-closed D c i (λ z. In z t.first) (t.paths.issuer t.first) (walk-reaches ρ D c i t.first (t.paths.path t.first) (t.paths.issuer t.first) (t.paths.walks t.first t.first_is_least.permutes)) in
+    let w : IsClosedBehind D c i (t.paths.issuer t.first) = reaches-closed D c i (λ z. In z t.first) (t.paths.issuer t.first)
+    (walk-reaches ρ D c i t.first (t.paths.path t.first) (t.paths.issuer t.first) (t.paths.walks t.first t.first_is_least.permutes)) in
     subst (In y) (sym t.left_is) (w x y (subst (In x) t.left_is h) n q f)
 
 -- ---- the law
@@ -158,7 +151,9 @@ joined-carried D c i l m e j = record {
 }
   where
     r : Linked D c i l m
-    r = joined-linked D c i l m (record { tail = e.left_tail; is = e.left_is }, are_once_from_distinct l e.left_once) (record { tail = e.right_tail; is = e.right_is }, are_once_from_distinct m e.right_once) j
+    r =
+        joined-linked D c i l m (record { tail = e.left_tail; is = e.left_is }, are_once_from_distinct l e.left_once)
+        (record { tail = e.right_tail; is = e.right_is }, are_once_from_distinct m e.right_once) j
 
 pub joined_where_symmetric : JoinedWhereSymmetric
 joined_where_symmetric ρ D valid c i l m t =

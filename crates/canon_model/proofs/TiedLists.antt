@@ -1,9 +1,6 @@
 -- The lists of tied outcomes may be exchanged: what holds of them follows from how they came about.
 use Rattle.std.proofs.Common.{List, [], arith, inl, inr, refl, subst, suc, sym, ℕ, ◌<◌, ◌∷◌, ◌⊎◌}
-use Rattle.rdf_terms.proofs.Membership.{In-append, In-append_right}
-use Rattle.rdf_terms.proofs.Permutations.{In-Permutes, Permutes-sym}
-use Rattle.rdf_terms.specs.Dataset.{Dataset}
-use Rattle.rdf_terms.specs.Lists.{In, Permutes, Text}
+use Rattle.rdf_terms.proofs.Common.{In-append, In-append_right, In-Permutes, Permutes-sym, Dataset, In, Permutes, Text}
 use Rattle.canon_model.specs.Coverage.{BeginsWith, Reached, begin, onward}
 use Rattle.canon_model.specs.Groups.{groups}
 use Rattle.canon_model.specs.Outcome.{DataToHash, HashNDegreeQuads, PathsOfPermutations}
@@ -71,7 +68,8 @@ module _ (ρ : Hashing) (D : Dataset) (c : List ℕ) (nodes : MentionsNodes D) w
       ));
     }
 
-  pub fits_data_to_hash : (k : ℕ) (b : Text → List ℕ) → ((h : Text) (x : ℕ) → In x (b h) → x < D.nodes) → (hs : List Text) (i : List ℕ) (s : Text) (j : List ℕ) → Fits ρ D c nodes k i → DataToHash (HashNDegreeQuads ρ D c) c b hs i s j → Fits ρ D c nodes k j
+  pub fits_data_to_hash : (k : ℕ) (b : Text → List ℕ) → ((h : Text) (x : ℕ) → In x (b h) → x < D.nodes) → (hs : List Text) (i : List ℕ) (s : Text) (j : List ℕ) → Fits ρ D c nodes k i
+      → DataToHash (HashNDegreeQuads ρ D c) c b hs i s j → Fits ρ D c nodes k j
   fits_data_to_hash k b low [] i s j f w = subst (Fits ρ D c nodes k) (sym w.1) f
   fits_data_to_hash k b low (h ∷ hs) i s j f w =
       let p = w.chosen_path in

@@ -1,12 +1,7 @@
 -- Two results that are tied and not joined may both be issued for first, and what comes of the one is not carried to what comes of the other.
 use Rattle.std.proofs.Common.{Bool, List, [], ap, append_assoc, cond, false, inl, inr, map, refl, subst, suc, sym, true, true≢false, ℕ, ◌++◌, ◌∙◌, ◌∷◌, ◌≡◌, ◌⊎◌}
-use Rattle.std.proofs.lemmas.Bool.{cases_eq}
-use Rattle.rdf_terms.proofs.Membership.{In-append_left}
-use Rattle.rdf_terms.proofs.Permutations.{In-Permutes, Permutes-from_equal, Permutes-map, Permutes-sym}
-use Rattle.rdf_terms.proofs.TextOrder.{is_at_most-from_not_before, is_at_most-refl}
-use Rattle.rdf_terms.specs.Dataset.{Dataset, IsValid}
-use Rattle.rdf_terms.specs.Isomorphism.{Symmetry}
-use Rattle.rdf_terms.specs.Lists.{AreDistinct, In, Permutes, Text, is_at_most, permutes_cons, permutes_swap, permutes_trans}
+use Rattle.std.proofs.lemmas.Bool.{cases_eq, false_from_ne_true}
+use Rattle.rdf_terms.proofs.Common.{In-append_left, In-Permutes, Permutes-from_equal, Permutes-map, Permutes-sym, is_at_most-from_not_before, is_at_most-refl, Dataset, IsValid, Symmetry, AreDistinct, In, Permutes, Text, is_at_most, permutes_cons, permutes_swap, permutes_trans}
 use Rattle.canon_model.specs.Allowed.{HashPathResult, IsCanonicalList, IsHashPathList, IssuesForHashes, issue_results, issued_for_unique_hashes, start_of, unissued_nodes}
 use Rattle.canon_model.specs.CountedRun.{counted_hashes, insert_result, result_of, sort_results}
 use Rattle.canon_model.specs.Coverage.{BeginsWith}
@@ -21,7 +16,7 @@ use Rattle.canon_model.proofs.Components.{IsComponent}
 use Rattle.canon_model.proofs.CountedAllowed.{counted_hashes-issue, outcome_of_start}
 use Rattle.canon_model.proofs.Equivariance.{equivariance}
 use Rattle.canon_model.proofs.ExchangeSymmetry.{IsClosed, append_split, map_same_in}
-use Rattle.canon_model.proofs.IssueEach.{false_of, issue_each-new}
+use Rattle.canon_model.proofs.IssueEach.{issue_each-new}
 use Rattle.canon_model.proofs.IssuedLists.{issued_issue_results_from}
 use Rattle.canon_model.proofs.Issuers.{AreOnce, In-from_is_issued, Keeps, are_distinct_from_once, begins_refl, begins_trans, is_issued-begins, is_issued-from_In, is_issued-from_not_In, map_fixed}
 use Rattle.canon_model.proofs.LocalSymmetry.{are_quads, in_split}
@@ -38,7 +33,8 @@ use Rattle.std.proofs.lemmas.List.{length-map, map-append}
 
 issue_each-begins : (c ms : List ℕ) → BeginsWith c (issue_each c ms)
 issue_each-begins c [] = begins_refl c
-issue_each-begins c (m ∷ ms) = begins_trans c (cond (is_issued m c) c (c ++ m ∷ [])) (issue_each (cond (is_issued m c) c (c ++ m ∷ [])) ms) (by (is_issued m c)) (issue_each-begins (cond (is_issued m c) c (c ++ m ∷ [])) ms)
+issue_each-begins c (m ∷ ms) =
+    begins_trans c (cond (is_issued m c) c (c ++ m ∷ [])) (issue_each (cond (is_issued m c) c (c ++ m ∷ [])) ms) (by (is_issued m c)) (issue_each-begins (cond (is_issued m c) c (c ++ m ∷ [])) ms)
   where
     by : (t : Bool) → BeginsWith c (cond t c (c ++ m ∷ []))
     by true = begins_refl c
@@ -94,7 +90,8 @@ cut k (q ∷ qs) = by (is_at_most k q.hash) refl (cut k qs)
       put = λ t f. ap (λ s. cond s (t ∷ q ∷ qs) (q ∷ insert_result t qs)) (ap (λ w. is_at_most w q.hash) f ∙ e) ∙ ap (λ w. q ∷ w) (r.put t f);
     }
 
-insert_result-behind : (k : Text) (t : HashPathResult) → t.hash ≡ k → (ps qs : List HashPathResult) → ((q : HashPathResult) → In q ps → is_at_most k q.hash ≡ false) → insert_result t (ps ++ qs) ≡ ps ++ insert_result t qs
+insert_result-behind : (k : Text) (t : HashPathResult) → t.hash ≡ k → (ps qs : List HashPathResult) → ((q : HashPathResult) → In q ps → is_at_most k q.hash ≡ false)
+    → insert_result t (ps ++ qs) ≡ ps ++ insert_result t qs
 insert_result-behind k t e [] qs f = refl
 insert_result-behind k t e (p ∷ ps) qs f =
     ap (λ s. cond s (t ∷ p ∷ (ps ++ qs)) (p ∷ insert_result t (ps ++ qs))) (ap (λ w. is_at_most w p.hash) e ∙ f p (inl refl))
@@ -124,9 +121,6 @@ same_front (x ∷ xs) (y ∷ ys) us vs e d f to from =
 
     tail : xs ++ us ≡ ys ++ vs
     tail = cc
-
-first_same : (x y : ℕ) (xs ys : List ℕ) → Path (List ℕ) (x ∷ xs) (y ∷ ys) → x ≡ y
-first_same x y xs ys e = cc
 
 -- ---- two lists of results
 
@@ -183,7 +177,7 @@ module _ (ρ : Hashing) (D : Dataset) (valid : IsValid D) (c l m : List ℕ) (t 
       p = component_at x (result_of ρ D c x).hash (result_of ρ D c x).issuer w
 
       off : (j : List ℕ) → IsClosed D (are_quads D valid) c j → is_issued x j ≡ false → (y : ℕ) → is_issued y (result_of ρ D c x).issuer ≡ true → is_issued y j ≡ false
-      off j closed e y g = false_of (is_issued y j) (λ k. true≢false (sym (p.whole j closed y x g p.start k) ∙ e))
+      off j closed e y g = false_from_ne_true (is_issued y j) (λ k. true≢false (sym (p.whole j closed y x g p.start k) ∙ e))
 
       by : (a : Bool) → is_issued x l ≡ a → (b : Bool) → is_issued x m ≡ b → (q : HashPathResult) × (q.start ≡ x) × IsSafe q
       by true e b f = given (t.none_lesser x i (inl (In-from_is_issued x l e)))
@@ -206,7 +200,8 @@ module _ (ρ : Hashing) (D : Dataset) (valid : IsValid D) (c l m : List ℕ) (t 
         safe = λ q. elim [ inl e ↦ subst IsSafe (sym e) a.2 | inr h ↦ r.safe q h ];
       }
 
-  sorted_list : (rs : List HashPathResult) → Permutes (unissued_nodes ρ D c class) (map start_of rs) → ((q : HashPathResult) → In q rs → HashNDegreeQuads ρ D c q.start (q.start ∷ []) q.hash q.issuer) → IsHashPathList ρ D c class (sort_results rs)
+  sorted_list : (rs : List HashPathResult) → Permutes (unissued_nodes ρ D c class) (map start_of rs) → ((q : HashPathResult) → In q rs → HashNDegreeQuads ρ D c q.start (q.start ∷ []) q.hash q.issuer)
+      → IsHashPathList ρ D c class (sort_results rs)
   sorted_list rs e f = record {
     one_each = permutes_trans e (Permutes-map start_of (sort_results-permutes rs));
     outcomes = λ q h. f q (In-Permutes q (Permutes-sym (sort_results-permutes rs)) h);
@@ -222,7 +217,8 @@ module _ (ρ : Hashing) (D : Dataset) (valid : IsValid D) (c l m : List ℕ) (t 
     right_list : IsHashPathList ρ D c class (first ++ right ∷ right_rest)
     apart : (q : HashPathResult) → In q first → (y : ℕ) → is_issued y q.issuer ≡ true → (is_issued y l ≡ false) × (is_issued y m ≡ false)
 
-  lesser_apart : (xs : List ℕ) (p : Picked xs) (q : HashPathResult) → In q (cut t.tied.hash (sort_results p.results)).lesser → (y : ℕ) → is_issued y q.issuer ≡ true → (is_issued y l ≡ false) × (is_issued y m ≡ false)
+  lesser_apart : (xs : List ℕ) (p : Picked xs) (q : HashPathResult) → In q (cut t.tied.hash (sort_results p.results)).lesser → (y : ℕ) → is_issued y q.issuer ≡ true
+      → (is_issued y l ≡ false) × (is_issued y m ≡ false)
   lesser_apart xs p q h =
       let u = cut t.tied.hash (sort_results p.results) in
       (p.safe q (In-Permutes q (Permutes-sym (sort_results-permutes p.results)) (subst (In q) (sym u.is) (In-append_left u.lesser u.others q h)))).apart (u.are_lesser q h)
@@ -259,7 +255,8 @@ module _ (ρ : Hashing) (D : Dataset) (valid : IsValid D) (c l m : List ℕ) (t 
           two v =
               let all : Permutes (unissued_nodes ρ D c class) (t.tied.left_start ∷ t.tied.right_start ∷ v.0) = permutes_trans u.1 (permutes_cons v.1) in
               let p = picked v.0 (λ x h. In-Permutes x (Permutes-sym all) (inr (inr h))) in
-              let listed : Permutes (unissued_nodes ρ D c class) (t.tied.left_start ∷ t.tied.right_start ∷ map start_of p.results) = permutes_trans all (Permutes-from_equal (λ i. t.tied.left_start ∷ t.tied.right_start ∷ sym p.starts i)) in
+              let listed : Permutes (unissued_nodes ρ D c class) (t.tied.left_start ∷ t.tied.right_start ∷ map start_of p.results) = permutes_trans all
+              (Permutes-from_equal (λ i. t.tied.left_start ∷ t.tied.right_start ∷ sym p.starts i)) in
               record {
                 first = (cut t.tied.hash (sort_results p.results)).lesser;
                 left_rest = right ∷ (cut t.tied.hash (sort_results p.results)).others;
@@ -268,13 +265,19 @@ module _ (ρ : Hashing) (D : Dataset) (valid : IsValid D) (c l m : List ℕ) (t 
                     (sorted_list (left ∷ right ∷ p.results) listed
                     (λ q. elim [
                       | inl a ↦ subst (λ (v : HashPathResult). HashNDegreeQuads ρ D c v.start (v.start ∷ []) v.hash v.issuer) (sym a) t.tied.left_outcome
-                      | inr b ↦ elim b [ inl a ↦ subst (λ (v : HashPathResult). HashNDegreeQuads ρ D c v.start (v.start ∷ []) v.hash v.issuer) (sym a) t.tied.right_outcome | inr a ↦ (p.safe q a).outcome ]
+                      | inr b ↦ elim b [
+                        | inl a ↦ subst (λ (v : HashPathResult). HashNDegreeQuads ρ D c v.start (v.start ∷ []) v.hash v.issuer) (sym a) t.tied.right_outcome
+                        | inr a ↦ (p.safe q a).outcome
+                      ]
                     ]));
                 right_list = subst (IsHashPathList ρ D c class) (insert_two t.tied.hash (sort_results p.results) right left refl refl)
                     (sorted_list (right ∷ left ∷ p.results) (permutes_trans listed permutes_swap)
                     (λ q. elim [
                       | inl a ↦ subst (λ (v : HashPathResult). HashNDegreeQuads ρ D c v.start (v.start ∷ []) v.hash v.issuer) (sym a) t.tied.right_outcome
-                      | inr b ↦ elim b [ inl a ↦ subst (λ (v : HashPathResult). HashNDegreeQuads ρ D c v.start (v.start ∷ []) v.hash v.issuer) (sym a) t.tied.left_outcome | inr a ↦ (p.safe q a).outcome ]
+                      | inr b ↦ elim b [
+                        | inl a ↦ subst (λ (v : HashPathResult). HashNDegreeQuads ρ D c v.start (v.start ∷ []) v.hash v.issuer) (sym a) t.tied.left_outcome
+                        | inr a ↦ (p.safe q a).outcome
+                      ]
                     ]));
                 apart = lesser_apart v.0 p;
               }
@@ -286,22 +289,29 @@ module _ (ρ : Hashing) (D : Dataset) (valid : IsValid D) (c l m : List ℕ) (t 
     allowed : IsCanonicalList ρ D list
     begins : BeginsWith (issue_results c first ++ q.issuer) list
 
-  ended : (first : List HashPathResult) (q : HashPathResult) (rest : List HashPathResult) → IsHashPathList ρ D c class (first ++ q ∷ rest) → AreOnce q.issuer → ((y : ℕ) → is_issued y q.issuer ≡ true → is_issued y (issue_results c first) ≡ false) → Ended first q
+  ended : (first : List HashPathResult) (q : HashPathResult) (rest : List HashPathResult) → IsHashPathList ρ D c class (first ++ q ∷ rest) → AreOnce q.issuer
+      → ((y : ℕ) → is_issued y q.issuer ≡ true → is_issued y (issue_results c first) ≡ false) → Ended first q
   ended first q rest w once new =
       let from = issue_results c (first ++ q ∷ rest) in
       let end = (counted_hashes ρ D t.may_have_issued.behind from).value in
-      let v : IssuesForHashes ρ D t.may_have_issued.behind from end = counted_hashes-issue ρ D valid t.may_have_issued.behind from (results-canonical ρ D (mentions_nodes D valid) c class (first ++ q ∷ rest) w canonical) in
-      let from_is : from ≡ issue_results (issue_results c first ++ q.issuer) rest = issue_results-append c first (q ∷ rest) ∙ ap (λ x. issue_results x rest) (issue_each-new (issue_results c first) q.issuer once new) in
+      let v : IssuesForHashes ρ D t.may_have_issued.behind from end = counted_hashes-issue ρ D valid t.may_have_issued.behind from
+      (results-canonical ρ D (mentions_nodes D valid) c class (first ++ q ∷ rest) w canonical) in
+      let from_is : from ≡ issue_results (issue_results c first ++ q.issuer) rest = issue_results-append c first (q ∷ rest)
+      ∙ ap (λ x. issue_results x rest) (issue_each-new (issue_results c first) q.issuer once new) in
       record {
         list = end;
         allowed = subst (λ hs. IssuesForHashes ρ D hs (issued_for_unique_hashes ρ D) end) (sym t.may_have_issued.hashes_are)
-            (issues_for_hashes-append ρ D t.may_have_issued.before (class ∷ t.may_have_issued.behind) (issued_for_unique_hashes ρ D) c end t.may_have_issued.issued (record { results = first ++ q ∷ rest; list = w; following = v }));
-        begins = begins_trans (issue_results c first ++ q.issuer) from end (subst (BeginsWith (issue_results c first ++ q.issuer)) (sym from_is) (issue_results-begins (issue_results c first ++ q.issuer) rest)) (issues_for_hashes-begins ρ D t.may_have_issued.behind from end v);
+            (issues_for_hashes-append ρ D t.may_have_issued.before (class ∷ t.may_have_issued.behind) (issued_for_unique_hashes ρ D) c end t.may_have_issued.issued
+            (record { results = first ++ q ∷ rest; list = w; following = v }));
+        begins =
+            begins_trans (issue_results c first ++ q.issuer) from end (subst (BeginsWith (issue_results c first ++ q.issuer)) (sym from_is)
+            (issue_results-begins (issue_results c first ++ q.issuer) rest)) (issues_for_hashes-begins ρ D t.may_have_issued.behind from end v);
       }
 
   -- the nodes of a component without canonical identifiers are new, where the results before list none of them
-  are_new : (first : List HashPathResult) (j : List ℕ) → ((y : ℕ) → is_issued y j ≡ true → is_issued y c ≡ false) → ((q : HashPathResult) → In q first → (y : ℕ) → is_issued y q.issuer ≡ true → is_issued y j ≡ false) → (y : ℕ) → is_issued y j ≡ true → is_issued y (issue_results c first) ≡ false
-  are_new first j free apart y g = false_of (is_issued y (issue_results c first)) (λ e. elim (issued_issue_results_from c first y e) [
+  are_new : (first : List HashPathResult) (j : List ℕ) → ((y : ℕ) → is_issued y j ≡ true → is_issued y c ≡ false)
+      → ((q : HashPathResult) → In q first → (y : ℕ) → is_issued y q.issuer ≡ true → is_issued y j ≡ false) → (y : ℕ) → is_issued y j ≡ true → is_issued y (issue_results c first) ≡ false
+  are_new first j free apart y g = false_from_ne_true (is_issued y (issue_results c first)) (λ e. elim (issued_issue_results_from c first y e) [
     | inl a ↦ true≢false (sym a ∙ free y g)
     | inr r ↦ true≢false (sym g ∙ apart r.0 r.1 y (is_issued-from_In y r.0.issuer r.2))
   ])
@@ -326,8 +336,10 @@ module _ (ρ : Hashing) (D : Dataset) (valid : IsValid D) (c l m : List ℕ) (t 
     right_begins = (n_degree_within-grows c ρ D (suc D.nodes) t.tied.right_start (t.tied.right_start ∷ []) t.tied.hash m (refl, tt) t.tied.right_outcome.outcome).0
 
     start_is : t.tied.right_start ≡ σ.relabelling.to t.tied.left_start
-    start_is = first_same t.tied.right_start (to t.tied.left_start) (right_begins.tail ++ vs) (map to left_begins.tail ++ map to us)
-        (ap (λ w. w ++ vs) (sym right_begins.is) ∙ parts.1 ∙ ap (λ w. map to w ++ map to us) left_begins.is)
+    start_is =
+        let same : Path (List ℕ) (t.tied.right_start ∷ (right_begins.tail ++ vs)) (to t.tied.left_start ∷ (map to left_begins.tail ++ map to us)) =
+        ap (λ w. w ++ vs) (sym right_begins.is) ∙ parts.1 ∙ ap (λ w. map to w ++ map to us) left_begins.is in
+        cc
 
     moved : HashNDegreeQuads ρ D c t.tied.right_start (t.tied.right_start ∷ []) t.tied.hash (map σ.relabelling.to l)
     moved = subst (λ d. HashNDegreeQuads ρ D d t.tied.right_start (t.tied.right_start ∷ []) t.tied.hash (map to l)) (map_fixed to c fixes)
@@ -343,7 +355,13 @@ module _ (ρ : Hashing) (D : Dataset) (valid : IsValid D) (c l m : List ℕ) (t 
         (λ z h. In-from_is_issued z m (a.whole m b.closed t.tied.right_start z a.start (is_issued-from_In z (map to l) h) b.start))
 
     pub joined : IsJoined D c l m
-    joined = (joined_where_symmetric ρ D valid c [] l m (inl t.tied)).1 (record { symmetry = σ; fixes_canonical = λ x h. fixes x (is_issued-from_In x c h); fixes_passed = λ x h. absurd h; right_is = right_is })
+    joined =
+        (joined_where_symmetric ρ D valid c [] l m (inl t.tied)).1 (record {
+          symmetry = σ;
+          fixes_canonical = λ x h. fixes x (is_issued-from_In x c h);
+          fixes_passed = λ x h. absurd h;
+          right_is = right_is;
+        })
 
   pub two_lists : ¬ (IsJoined D c l m) → HasTwoLists ρ D
   two_lists n =

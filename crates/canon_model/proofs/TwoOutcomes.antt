@@ -1,9 +1,6 @@
 -- A call may take either of two tied permutations, and what comes of the one is carried to what comes of the other only by a symmetry that joins them.
 use Rattle.std.proofs.Common.{List, [], ap, append_assoc, arith, inl, inr, length, map, refl, subst, suc, sym, ℕ, ◌++◌, ◌<◌, ◌∙◌, ◌∷◌, ◌≡◌}
-use Rattle.rdf_terms.proofs.Permutations.{AreDistinct-Permutes, In-Permutes, Permutes-sym, length-Permutes}
-use Rattle.rdf_terms.specs.Dataset.{Dataset, IsValid}
-use Rattle.rdf_terms.specs.Isomorphism.{Symmetry}
-use Rattle.rdf_terms.specs.Lists.{AreDistinct, In, Text, is_before}
+use Rattle.rdf_terms.proofs.Common.{AreDistinct-Permutes, In-Permutes, Permutes-sym, length-Permutes, Dataset, IsValid, Symmetry, AreDistinct, In, Text, is_before}
 use Rattle.canon_model.specs.CountedRun.{counted_call_within, counted_groups}
 use Rattle.canon_model.specs.Coverage.{BeginsWith}
 use Rattle.canon_model.specs.Groups.{groups}
@@ -40,7 +37,8 @@ same_length (x ∷ xs) ys d f to from =
     ∙ sym (length-Permutes r.1)
 
 -- the groups one after another
-data_to_hash-append : (R : CallRelation) (c : List ℕ) (nodes : Text → List ℕ) (hs gs : List Text) (i : List ℕ) (s : Text) (k : List ℕ) (t : Text) (j : List ℕ) → DataToHash R c nodes hs i s k → DataToHash R c nodes gs k t j → DataToHash R c nodes (hs ++ gs) i (s ++ t) j
+data_to_hash-append : (R : CallRelation) (c : List ℕ) (nodes : Text → List ℕ) (hs gs : List Text) (i : List ℕ) (s : Text) (k : List ℕ) (t : Text) (j : List ℕ) → DataToHash R c nodes hs i s k
+    → DataToHash R c nodes gs k t j → DataToHash R c nodes (hs ++ gs) i (s ++ t) j
 data_to_hash-append R c nodes [] gs i s k t j v w = subst (λ x. DataToHash R c nodes gs i (x ++ t) j) (sym v.0) (subst (λ x. DataToHash R c nodes gs x t j) v.1 w)
 data_to_hash-append R c nodes (h ∷ hs) gs i s k t j v w = record {
   path = v.path;
@@ -77,8 +75,10 @@ module _ (ρ : Hashing) (D : Dataset) (valid : IsValid D) (c i l m : List ℕ) (
       let f : Fits ρ D c (mentions_nodes D valid) (suc (suc D.nodes)) j = subst (Fits ρ D c (mentions_nodes D valid) (suc (suc D.nodes))) (sym w.issuer_is)
       (fits_issuer ρ D c (mentions_nodes D valid) (suc (suc D.nodes)) (bag t.hash) i (low t.hash) begun w.paths w.chosen w.is_least.permutes) in
       let end = (counted_groups (counted_call_within (suc D.nodes) ρ D c) c bag t.begun.behind j).value in
-      let rest = data_to_hash-counted ρ D c (mentions_nodes D valid) (suc D.nodes) (HashNDegreeQuads ρ D c) (hash_n_degree_quads-covers D c ρ) (outcome-counted ρ D c (mentions_nodes D valid) canonical (suc D.nodes)) bag low t.begun.behind j f in
-      let group : DataToHash (HashNDegreeQuads ρ D c) c bag (t.hash ∷ t.begun.behind) i (t.hash ++ path ++ end.text) end.issuer = record { path = path; issuer = j; rest = end.text; chosen_path = w; following = rest; text_is = refl } in
+      let rest = data_to_hash-counted ρ D c (mentions_nodes D valid) (suc D.nodes) (HashNDegreeQuads ρ D c) (hash_n_degree_quads-covers D c ρ)
+      (outcome-counted ρ D c (mentions_nodes D valid) canonical (suc D.nodes)) bag low t.begun.behind j f in
+      let group : DataToHash (HashNDegreeQuads ρ D c) c bag (t.hash ∷ t.begun.behind) i (t.hash ++ path ++ end.text) end.issuer =
+      record { path = path; issuer = j; rest = end.text; chosen_path = w; following = rest; text_is = refl } in
       let all = data_to_hash-append (HashNDegreeQuads ρ D c) c bag t.begun.before (t.hash ∷ t.begun.behind) t.call_issuer t.begun.text i (t.hash ++ path ++ end.text) end.issuer t.begun.begun group in
       let text = t.begun.text ++ (t.hash ++ path ++ end.text) in
       record {
@@ -111,7 +111,8 @@ module _ (ρ : Hashing) (D : Dataset) (valid : IsValid D) (c i l m : List ℕ) (
 
   -- both lists are walks over one bag, so their nodes are the same
   as_long : length l ≡ length m
-  as_long = (λ k. length (t.left_is k)) ∙ same_length (t.paths.issuer t.first) (t.paths.issuer t.other) (subst AreDistinct t.left_is exchanged.left_once) (subst AreDistinct t.right_is exchanged.right_once)
+  as_long =
+      (λ k. length (t.left_is k)) ∙ same_length (t.paths.issuer t.first) (t.paths.issuer t.other) (subst AreDistinct t.left_is exchanged.left_once) (subst AreDistinct t.right_is exchanged.right_once)
       (covered_alike ρ D c (mentions_nodes D valid) (suc (suc D.nodes)) (bag t.hash) i (low t.hash) begun t.paths t.first t.other t.first_is_least.permutes t.other_permutes)
       (covered_alike ρ D c (mentions_nodes D valid) (suc (suc D.nodes)) (bag t.hash) i (low t.hash) begun t.paths t.other t.first t.other_permutes t.first_is_least.permutes)
       ∙ (λ k. length (sym t.right_is k))
@@ -124,7 +125,9 @@ module _ (ρ : Hashing) (D : Dataset) (valid : IsValid D) (c i l m : List ℕ) (
     right_is = (append_split m vs (map to l) (map to us) (sym as_long ∙ sym (length-map l to)) (e ∙ map-append to l us)).0
 
     front_is : i ≡ map σ.relabelling.to i
-    front_is = (append_split i exchanged.right_tail (map to i) (map to exchanged.left_tail) (sym (length-map i to)) (sym exchanged.right_is ∙ right_is ∙ ap (map to) exchanged.left_is ∙ map-append to i exchanged.left_tail)).0
+    front_is =
+        (append_split i exchanged.right_tail (map to i) (map to exchanged.left_tail) (sym (length-map i to))
+        (sym exchanged.right_is ∙ right_is ∙ ap (map to) exchanged.left_is ∙ map-append to i exchanged.left_tail)).0
 
     joined : IsJoined D c l m
     joined = (joined_where_symmetric ρ D valid c i l m (inr t)).1 (record {

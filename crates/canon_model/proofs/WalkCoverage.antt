@@ -1,8 +1,6 @@
 -- A walk adds to its issuer exactly the free nodes of the permutation and those that can be reached from them, each once.
 use Rattle.std.proofs.Common.{List, inl, inr, subst, suc, sym, true≢false, ℕ, ◌∙◌, ◌↔◌, ◌⊎◌}
-use Rattle.rdf_terms.proofs.Membership.{In-append, In-append_right}
-use Rattle.rdf_terms.specs.Dataset.{Dataset}
-use Rattle.rdf_terms.specs.Lists.{AreDistinct, In}
+use Rattle.rdf_terms.proofs.Common.{In-append, In-append_right, Dataset, AreDistinct, In}
 use Rattle.canon_model.specs.Coverage.{Reached}
 use Rattle.canon_model.specs.Laws.{Coverage}
 use Rattle.canon_model.specs.Outcome.{HashNDegreeQuads}

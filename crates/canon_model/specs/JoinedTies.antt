@@ -12,7 +12,8 @@ IsJoinedTie D t = IsJoined D t.canonical t.left t.right
 abbrev pub JoinedCount : Dataset → List Tie → ℕ → Type 0
 JoinedCount D [] count = count ≡ 0
 JoinedCount D (t ∷ ties) zero = (¬ (IsJoinedTie D t)) × JoinedCount D ties zero
-JoinedCount D (t ∷ ties) (suc count) = (IsJoinedTie D t × JoinedCount D ties count) ⊎ ((¬ (IsJoinedTie D t)) × JoinedCount D ties (suc count))
+JoinedCount D (t ∷ ties) (suc count) =
+    (IsJoinedTie D t × JoinedCount D ties count) ⊎ ((¬ (IsJoinedTie D t)) × JoinedCount D ties (suc count))
 
 -- the tie is the first of the list that is not joined
 pub record IsFirstUnjoined (D : Dataset) (ties : List Tie) (t : Tie) : Type 0 where

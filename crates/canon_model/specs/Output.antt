@@ -1,8 +1,6 @@
 -- What the bytes of a run are (RDF Dataset Canonicalization, section 4.4, step 7), and the limit on its work.
 use Rattle.std.specs.Prelude.{◌≡◌, ℕ, ◌<◌, ◌≤◌}
-use Rattle.rdf_terms.specs.Lists.{Text}
-use Rattle.rdf_terms.specs.Dataset.{Dataset, IsValid}
-use Rattle.rdf_terms.specs.Isomorphism.{AreIsomorphic}
+use Rattle.rdf_terms.specs.Vocabulary.{Text, Dataset, IsValid, AreIsomorphic}
 use Rattle.canon_model.specs.Hashing.{Hashing}
 use Rattle.canon_model.specs.Allowed.{canonical_form, IsCanonicalOutput}
 use Rattle.canon_model.specs.CountedRun.{counted_run}
@@ -11,7 +9,8 @@ use Rattle.canon_model.specs.CountedRun.{counted_run}
 abbrev pub chosen_form : Hashing → Dataset → Text
 chosen_form ρ D = canonical_form D (counted_run ρ D).value
 
--- The text is the chosen form of a valid dataset. The standard allows it for the dataset, and for no dataset that is not isomorphic, under whichever hash and reading.
+-- The text is the chosen form of a valid dataset. The standard allows it for the dataset, and for no dataset that is
+-- not isomorphic, under whichever hash and reading.
 pub record IsOutputOf (ρ : Hashing) (D : Dataset) (text : Text) : Type 0 where
   pub valid : IsValid D
   pub chosen : text ≡ chosen_form ρ D

@@ -1,7 +1,7 @@
--- A dataset is its set of quads (RDF 1.1 Concepts, section 4): nothing that is counted depends on the order of its list.
+-- A dataset is its set of quads (RDF 1.1 Concepts, section 4): nothing that is counted depends on the order of its
+-- list.
 use Rattle.std.specs.Prelude.{◌≡◌}
-use Rattle.rdf_terms.specs.Lists.{Permutes}
-use Rattle.rdf_terms.specs.Dataset.{Dataset}
+use Rattle.rdf_terms.specs.Vocabulary.{Permutes, Dataset}
 use Rattle.canon_model.specs.Hashing.{Hashing}
 use Rattle.canon_model.specs.CountedRun.{counted_run}
 

@@ -1,8 +1,6 @@
 -- What an unjoined tie of two permutations does: the call has two outcomes that no symmetry carries to one another.
 use Rattle.std.specs.Prelude.{◌≡◌, ℕ, List, map}
-use Rattle.rdf_terms.specs.Lists.{Text}
-use Rattle.rdf_terms.specs.Dataset.{Dataset, IsValid}
-use Rattle.rdf_terms.specs.Isomorphism.{Symmetry}
+use Rattle.rdf_terms.specs.Vocabulary.{Text, Dataset, IsValid, Symmetry}
 use Rattle.canon_model.specs.Hashing.{Hashing}
 use Rattle.canon_model.specs.Outcome.{HashNDegreeQuads}
 use Rattle.canon_model.specs.Ties.{AreTiedPaths, Fixes, IsJoined}
@@ -19,4 +17,6 @@ pub record HasTwoOutcomes (ρ : Hashing) (D : Dataset) (c : List ℕ) (n : ℕ) 
 
 -- where two tied permutations of a call's group are not joined, the call has two such outcomes
 abbrev pub UnjoinedGivesTwoOutcomes : Type 0
-UnjoinedGivesTwoOutcomes = (ρ : Hashing) (D : Dataset) → IsValid D → (c i left right : List ℕ) (t : AreTiedPaths ρ D c i left right) → ¬ (IsJoined D c left right) → HasTwoOutcomes ρ D c t.node t.call_issuer
+UnjoinedGivesTwoOutcomes =
+    (ρ : Hashing) (D : Dataset) → IsValid D → (c i left right : List ℕ) (t : AreTiedPaths ρ D c i left right)
+    → ¬ (IsJoined D c left right) → HasTwoOutcomes ρ D c t.node t.call_issuer

@@ -5,7 +5,7 @@ ghost use Rattle.hex.specs.Hex.{encode_lower};
 
 use canon_model::HexHash;
 
-/// A SHA-256 in lower-case hexadecimal.
+// A SHA-256 in lower-case hexadecimal.
 pub(crate) fn hex_of_sha256(digest: &[u8; 32]) -> HexHash
     ensures { result ≡ encode_lower digest.now }
 {
@@ -16,7 +16,7 @@ pub(crate) fn hex_of_sha256(digest: &[u8; 32]) -> HexHash
     HexHash::new(&digits)
 }
 
-/// A SHA-384 in lower-case hexadecimal.
+// A SHA-384 in lower-case hexadecimal.
 pub(crate) fn hex_of_sha384(digest: &[u8; 48]) -> HexHash
     ensures { result ≡ encode_lower digest.now }
 {

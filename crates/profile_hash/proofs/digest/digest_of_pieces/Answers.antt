@@ -10,4 +10,5 @@ loop-piece-preserved g c =
 
 pub returns : goal.returns
 returns g c =
-    subst (λ ts. g.D.Digest.digest_of (joined (map (λ t. t.now) ts)) c.finalize.result) (take_all c.loop-piece.piece-index c.args.pieces.now c.loop-piece-test.false) (c.finalize.ensures _ c.loop-piece.invariant)
+    subst (λ ts. g.D.Digest.digest_of (joined (map (λ t. t.now) ts)) c.finalize.result) (take_all c.loop-piece.piece-index c.args.pieces.now c.loop-piece-test.false)
+    (c.finalize.ensures _ c.loop-piece.invariant)
