@@ -1,20 +1,14 @@
 -- Texts that agree in their first places, and the path while it is written.
-use Rattle.std.proofs.Common.{Bool, List, Some, [], ap, arith, drop, le-leb, length, length-drop, refl, suc, sym, take, true, zero, ℕ, ◌++◌, ◌-◌, ◌&&◌, ◌∙◌, ◌∷◌, ◌≡◌, ◌≤◌, append_assoc, take-append-drop}
-use Rattle.std.proofs.lemmas.Cmp.{nat_cmp_total, tied_itself}
+use Rattle.std.proofs.Common.{◌+◌, Bool, List, Some, ap, arith, drop, le-leb, length, length-drop, sym, take, true, ℕ, ◌++◌, ◌-◌, ◌&&◌, ◌∙◌, ◌≡◌, ◌≤◌, append_assoc, take-append-drop}
 use Rattle.std.proofs.lemmas.List.{take_all}
-use Rattle.std.specs.Cmp.Lexicographic.{slice_cmp}
-use Rattle.std.specs.Ordering.{is_lt, nat_cmp, ordering_then}
 use Rattle.std.specs.Prelude.{nat_le}
-use Rattle.rdf_terms.specs.Lists.{Text, is_before}
+use Rattle.std.proofs.Math.Seq.{take-add}
+use Rattle.rdf_terms.proofs.Common.{is_before-front, Text, is_before}
 use Rattle.canon_model.specs.CountedRun.{skips}
 use Rattle.ndegree_hash.specs.Agreement.{Agree}
 use Rattle.ndegree_hash.specs.PathChoice.{IsSameChoice, PathChoice, chosen_if}
 
 -- ---- what stands behind places that agree decides
-
-is_before-front : (s a b : Text) → is_before (s ++ a) (s ++ b) ≡ is_before a b
-is_before-front [] a b = refl
-is_before-front (x ∷ s) a b = ap (λ o. is_lt (ordering_then o (slice_cmp nat_cmp (s ++ a) (s ++ b)))) (tied_itself nat_cmp_total x) ∙ is_before-front s a b
 
 pub is_before-behind : (k : ℕ) (a b : Text) → Agree k a b → is_before (drop k b) (drop k a) ≡ is_before b a
 is_before-behind k a b e =
@@ -37,11 +31,7 @@ past-behind k path chosen past e long is =
 -- ---- texts that agree further
 
 take-split : (k n : ℕ) (a : List ℕ) → k ≤ n → take n a ≡ take k a ++ take (n - k) (drop k a)
-take-split zero n a h = ap (λ m. take m a) (let z : n ≡ n - 0 = omega arith in z)
-take-split (suc k) zero a h = absurd (let z : ⊥ = omega arith in z)
-take-split (suc k) (suc n) [] h = sym (take_all (suc n - suc k) [] (omega arith))
-take-split (suc k) (suc n) (x ∷ a) h =
-    ap (λ s. x ∷ s) (take-split k n a (omega arith)) ∙ ap (λ m. x ∷ (take k a ++ take m (drop k a))) (let z : n - k ≡ suc n - suc k = omega arith in z)
+take-split k n a h = ap (λ m. take m a) (let z : n ≡ k + (n - k) = omega arith in z) ∙ take-add k (n - k) a
 
 pub agree-further : (k n : ℕ) (a b : Text) → Agree k a b → k ≤ n → n ≤ length a → n ≤ length b → take (n - k) (drop k a) ≡ take (n - k) (drop k b) → Agree n a b
 agree-further k n a b e h la lb s = record {
@@ -49,28 +39,6 @@ agree-further k n a b e h la lb s = record {
   within_right = lb;
   same = take-split k n a h ∙ ap (λ l. l ++ take (n - k) (drop k a)) e.same ∙ ap (λ r. take k b ++ r) s ∙ sym (take-split k n b h);
 }
-
-pub agree-nothing : (a b : Text) → Agree 0 a b
-agree-nothing a b = record { within_left = omega arith; within_right = omega arith; same = refl }
-
-pub agree-turned : (k : ℕ) (a b : Text) → Agree k a b → Agree k b a
-agree-turned k a b e = record { within_left = e.within_right; within_right = e.within_left; same = sym e.same }
-
-take-front : (k : ℕ) (a s : List ℕ) → k ≤ length a → take k (a ++ s) ≡ take k a
-take-front zero a s h = refl
-take-front (suc k) [] s h = absurd (let z : ⊥ = omega arith in z)
-take-front (suc k) (x ∷ a) s h = ap (λ l. x ∷ l) (take-front k a s (omega arith))
-
-long-front : (a s : List ℕ) → length a ≤ length (a ++ s)
-long-front [] s = omega arith
-long-front (x ∷ a) s = let r = long-front a s in omega arith
-
--- a path that goes on agrees as far
-pub agree-longer : (k : ℕ) (a b s : Text) → Agree k a b → Agree k (a ++ s) b
-agree-longer k a b s e =
-    let long = long-front a s in
-    let within = e.within_left in
-    record { within_left = omega arith; within_right = e.within_right; same = take-front k a s e.within_left ∙ e.same }
 
 -- ---- the path while it is written
 
@@ -80,7 +48,8 @@ pub record HasWritten (start : PathChoice) (before written : Text) (past : Bool)
   pub choice : IsSameChoice start now
   pub skips : skips (chosen_if start.has_choice start.chosen) now.path ≡ past
 
-pub has_written : (start old mid new : PathChoice) (written : Text) (past : Bool) → IsSameChoice start old → mid ≡ record { path = old.path ++ written; has_choice = old.has_choice; chosen = old.chosen }
+pub has_written : (start old mid new : PathChoice) (written : Text) (past : Bool) → IsSameChoice start old
+    → mid ≡ record { path = old.path ++ written; has_choice = old.has_choice; chosen = old.chosen }
     → past ≡ skips (chosen_if mid.has_choice mid.chosen) mid.path → new ≡ mid → HasWritten start old.path written past new
 has_written start old mid new written past same writes test unchanged =
     let all : new ≡ record { path = old.path ++ written; has_choice = old.has_choice; chosen = old.chosen } = unchanged ∙ writes in
@@ -96,9 +65,6 @@ has_written start old mid new written past same writes test unchanged =
           ∙ sym test;
     }
 
-pub same_choice-itself : (p : PathChoice) → IsSameChoice p p
-same_choice-itself p = record { has_choice = refl; chosen = refl }
-
 -- a text was written
 pub same_choice-written_first : (old new : PathChoice) (written : Text) → new ≡ record { path = old.path ++ written; has_choice = old.has_choice; chosen = old.chosen } → IsSameChoice old new
 same_choice-written_first old new written e = record { has_choice = ap (λ (p : PathChoice). p.has_choice) e; chosen = ap (λ (p : PathChoice). p.chosen) e }
@@ -111,7 +77,8 @@ same_choice-written old mid new first second e f = record {
   chosen = ap (λ (p : PathChoice). p.chosen) f ∙ ap (λ (p : PathChoice). p.chosen) e;
 }
 
-pub path-written : (old mid : PathChoice) (path first first' second : Text) → mid ≡ record { path = old.path ++ first; has_choice = old.has_choice; chosen = old.chosen } → first ≡ first' → path ≡ mid.path ++ second
+pub path-written : (old mid : PathChoice) (path first first' second : Text) → mid ≡ record { path = old.path ++ first; has_choice = old.has_choice; chosen = old.chosen } → first ≡ first'
+    → path ≡ mid.path ++ second
     → path ≡ old.path ++ (first' ++ second)
 path-written old mid path first first' second e same is =
     is ∙ ap (λ (p : PathChoice). p.path ++ second) e ∙ ap (λ t. (old.path ++ t) ++ second) same ∙ append_assoc old.path first' second

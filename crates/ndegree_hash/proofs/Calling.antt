@@ -1,7 +1,6 @@
 -- What the counted run of a call says of the call.
 use Rattle.std.proofs.Common.{List, arith, length, subst, sym, ℕ, ◌+◌, ◌≡◌}
-use Rattle.rdf_terms.specs.Dataset.{Dataset, IsValid}
-use Rattle.rdf_terms.specs.Lists.{Text}
+use Rattle.rdf_terms.proofs.Common.{Dataset, IsValid, Text}
 use Rattle.canon_model.specs.CountedRun.{counted_call}
 use Rattle.canon_model.specs.Issuer.{IsValidCall}
 use Rattle.canon_model.specs.Hashing.{Hashing}
@@ -18,7 +17,8 @@ use Rattle.ndegree_hash.proofs.Logging.{joined-all}
 module _ (ρ : Hashing) (D : Dataset) (c : List ℕ) (n : ℕ) (i : List ℕ) where
   pub finished-result : (before now : Account) (hash : Text) (j : List ℕ) → IsValid D → IsValidCall D c n i → IsFinished D (counted_call ρ D c n i) before hash j now → IsCallResult ρ D c n i hash j
   finished-result before now hash j valid v f =
-      let text : HashNDegreeQuads ρ D c n i hash (counted_call ρ D c n i).value.issuer = subst (λ h. HashNDegreeQuads ρ D c n i h (counted_call ρ D c n i).value.issuer) (sym f.hash_is) (counted_call_is_outcome ρ D c n i valid v) in
+      let text : HashNDegreeQuads ρ D c n i hash (counted_call ρ D c n i).value.issuer = subst (λ h. HashNDegreeQuads ρ D c n i h (counted_call ρ D c n i).value.issuer) (sym f.hash_is)
+      (counted_call_is_outcome ρ D c n i valid v) in
       let outcome : HashNDegreeQuads ρ D c n i hash j = subst (λ k. HashNDegreeQuads ρ D c n i hash k) (sym f.list_is) text in
       record {
         outcome = outcome;

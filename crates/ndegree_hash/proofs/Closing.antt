@@ -1,9 +1,7 @@
 -- The end of a group: the chosen issuer comes back on the trail, and its ties are logged.
-use Rattle.std.proofs.Common.{Bool, List, None, Some, [], ap, arith, cond, drop, false, get_or, inl, inr, length, map, refl, subst, suc, sym, take, true, zero, ℕ, ◌++◌, ◌<◌, ◌∙◌, ◌∷◌, ◌≡◌, ◌≤◌}
-use Rattle.std.proofs.lemmas.List.{length-take, length-take-le, map-append, take-append-drop, take-append-le, take_all}
-use Rattle.rdf_terms.specs.Dataset.{Dataset}
-use Rattle.rdf_terms.specs.Lists.{In}
-use Rattle.rdf_terms.proofs.Membership.{In-append_right}
+use Rattle.std.proofs.Common.{Bool, List, None, Some, [], ap, arith, cond, drop, false, get_or, length, map, refl, subst, sym, take, true, ℕ, ◌++◌, ◌<◌, ◌∙◌, ◌∷◌, ◌≡◌, ◌≤◌}
+use Rattle.std.proofs.lemmas.List.{length-take, length-take-le, map-append, take-append-drop, take_all}
+use Rattle.rdf_terms.proofs.Common.{Dataset, In, In-append_right, In-map, In-get_or, map-map}
 use Rattle.canon_model.specs.CountedRun.{Tie, issuer_or, logged, path_or_none, ties_of_chosen}
 use Rattle.ndegree_hash.specs.declared.frame.Frame.{Frame}
 use Rattle.ndegree_hash.specs.declared.at.At.TheVariants.{Close, Group}
@@ -16,15 +14,10 @@ use Rattle.ndegree_hash.specs.Log.{LoggedTies, Logs, LogsFront, LogsInTurn}
 use Rattle.tie_witness.specs.Witness.{TailMayBeChecked, right_of}
 use Rattle.ndegree_hash.proofs.GroupSteps.{close-leads}
 use Rattle.ndegree_hash.proofs.Logging.{logs-last}
+use Rattle.ndegree_hash.proofs.TrailParts.{choice-none, choice-some}
+use Rattle.std.proofs.Math.Seq.{take-append_seam}
 
 -- ---- what is chosen
-
-pub choice-some : (t : List ℕ) (f : Frame) → f.paths.has_choice ≡ true
-    → choice_of t f ≡ Some (record { path = f.paths.chosen; issuer = chosen_issuer t f; others = map (λ tail. take f.mark t ++ tail) f.others.items })
-choice-some t f e = ap (λ (b : Bool). cond b (Some (record { path = f.paths.chosen; issuer = chosen_issuer t f; others = map (λ tail. take f.mark t ++ tail) f.others.items })) None) e
-
-pub choice-none : (t : List ℕ) (f : Frame) → f.paths.has_choice ≡ false → choice_of t f ≡ None
-choice-none t f e = ap (λ (b : Bool). cond b (Some (record { path = f.paths.chosen; issuer = chosen_issuer t f; others = map (λ tail. take f.mark t ++ tail) f.others.items })) None) e
 
 pub chosen-trail : (D : Dataset) (c t : List ℕ) (f : Frame) → f.paths.has_choice ≡ true → IsKnown D c t f → IsTrail D c (chosen_issuer t f)
 chosen-trail D c t f e k = subst (IsSound D c) (choice-some t f e) k.chosen
@@ -33,24 +26,17 @@ chosen-trail D c t f e k = subst (IsSound D c) (choice-some t f e) k.chosen
 pub aside-trail : (D : Dataset) (c t : List ℕ) (f : Frame) → f.paths.has_choice ≡ true → f.on_trail ≡ false → IsKnown D c t f → IsTrail D c (take f.mark t ++ f.tail.items)
 aside-trail D c t f e aside k = subst (IsTrail D c) (ap (λ (b : Bool). cond b t (take f.mark t ++ f.tail.items)) aside) (chosen-trail D c t f e k)
 
-pub In-get : {A : Type 0} (xs : List A) (k : ℕ) (d : A) → k < length xs → In (get_or xs k d) xs
-In-get [] k d h = absurd (let z : ⊥ = omega arith in z)
-In-get (x ∷ xs) zero d h = inl refl
-In-get (x ∷ xs) (suc k) d h = inr (In-get xs k d (omega arith))
-
 -- each of these nodes has a number of 32 bits
-pub aside-fits : (D : Dataset) (c t : List ℕ) (f : Frame) (most : ℕ) → f.paths.has_choice ≡ true → f.on_trail ≡ false → IsKnown D c t f → D.nodes ≤ most → (k d : ℕ) → k < length f.tail.items → get_or f.tail.items k d < most
+pub aside-fits : (D : Dataset) (c t : List ℕ) (f : Frame) (most : ℕ) → f.paths.has_choice ≡ true → f.on_trail ≡ false → IsKnown D c t f → D.nodes ≤ most → (k d : ℕ) → k < length f.tail.items
+    → get_or f.tail.items k d < most
 aside-fits D c t f most e aside known fits k d h =
-    let low = (aside-trail D c t f e aside known).nodes (get_or f.tail.items k d) (In-append_right (take f.mark t) f.tail.items (get_or f.tail.items k d) (In-get f.tail.items k d h)) in
+    let low = (aside-trail D c t f e aside known).nodes (get_or f.tail.items k d) (In-append_right (take f.mark t) f.tail.items (get_or f.tail.items k d) (In-get_or f.tail.items k d h)) in
     omega arith
 
 -- ---- below the mark the trail stays
 
 take-begun : (t s : List ℕ) (m : ℕ) → m ≤ length t → take m (take m t ++ s) ≡ take m t
-take-begun t s m h =
-    let l : length (take m t) ≡ m = length-take-le m t h in
-    let within : m ≤ length (take m t) = omega arith in
-    take-append-le m (take m t) s within ∙ take_all m (take m t) (omega arith)
+take-begun t s m h = ap (λ n. take n (take m t ++ s)) (sym (length-take-le m t h)) ∙ take-append_seam (take m t) s
 
 pub chosen-below : (t : List ℕ) (f : Frame) → f.mark ≤ length t → take f.mark (chosen_issuer t f) ≡ take f.mark t
 chosen-below t f h = by f.on_trail
@@ -68,7 +54,8 @@ chosen-long t u f h e =
 
 -- ---- the group is closed
 
-pub close-chosen : (c t u : List ℕ) (f g : Frame) → f.mark ≤ length t → f.paths.has_choice ≡ true → u ≡ chosen_issuer t f → g.text.items ≡ f.text.items ++ f.paths.chosen → g.groups ≡ f.groups → g.mark ≡ f.mark
+pub close-chosen : (c t u : List ℕ) (f g : Frame) → f.mark ≤ length t → f.paths.has_choice ≡ true → u ≡ chosen_issuer t f → g.text.items ≡ f.text.items ++ f.paths.chosen → g.groups ≡ f.groups
+    → g.mark ≡ f.mark
     → Leads c t f Close (logged (ties_at c t f Close)) u g Group
 close-chosen c t u f g m has trail text groups mark =
     close-leads c t u f g m (trail ∙ ap (λ ch. issuer_or ch (take f.mark t)) (sym (choice-some t f has))) (ap (λ v. take f.mark v) trail ∙ chosen-below t f m)
@@ -86,25 +73,14 @@ close-none c t u f g m none trail text groups mark =
 abbrev tie_by : List ℕ → List ℕ → List ℕ → List ℕ → Tie
 tie_by c i left right = record { canonical = c; passed = i; left = left; right = right }
 
-map-twice : (c i left : List ℕ) (others : List (List ℕ)) → map (λ tail. tie_by c i left (i ++ tail)) others ≡ map (tie_by c i left) (map (λ tail. i ++ tail) others)
-map-twice c i left [] = refl
-map-twice c i left (tail ∷ others) = ap (λ (ties : List Tie). tie_by c i left (i ++ tail) ∷ ties) (map-twice c i left others)
-
-pub ties-are : (c t u : List ℕ) (f : Frame) → f.mark ≤ length t → f.paths.has_choice ≡ true → u ≡ chosen_issuer t f → map (tie_with c f.mark u) f.others.items ≡ ties_at c t f Close
-ties-are c t u f m has trail =
+pub ties-are : (c t u : List ℕ) (f : Frame) (others : List (List ℕ)) → f.mark ≤ length t → f.paths.has_choice ≡ true → u ≡ chosen_issuer t f → others ≡ f.others.items
+    → map (tie_with c f.mark u) others ≡ ties_at c t f Close
+ties-are c t u f others m has trail same =
     let all : List ℕ → List ℕ → List Tie = λ i left. map (λ tail. tie_by c i left (i ++ tail)) f.others.items in
-    ap (λ i. all i u) (ap (λ v. take f.mark v) trail ∙ chosen-below t f m)
+    ap (map (tie_with c f.mark u)) same ∙ ap (λ i. all i u) (ap (λ v. take f.mark v) trail ∙ chosen-below t f m)
     ∙ ap (λ left. all (take f.mark t) left) trail
-    ∙ map-twice c (take f.mark t) (chosen_issuer t f) f.others.items
+    ∙ sym (map-map (tie_by c (take f.mark t) (chosen_issuer t f)) (λ tail. take f.mark t ++ tail) f.others.items)
     ∙ ap (λ ch. ties_of_chosen ch c (take f.mark t)) (sym (choice-some t f has))
-
-pub no_ties : (c t : List ℕ) (f : Frame) → f.paths.has_choice ≡ false → [] ≡ ties_at c t f Close
-no_ties c t f none = ap (λ ch. ties_of_chosen ch c (take f.mark t)) (sym (choice-none t f none))
-
-In-map : {A B : Type 0} (f : A → B) (xs : List A) (x : A) → In x xs → In (f x) (map f xs)
-In-map f [] x h = absurd h
-In-map f (y ∷ xs) x (inl e) = inl (ap f e)
-In-map f (y ∷ xs) x (inr h) = inr (In-map f xs x h)
 
 pub others-may_be_checked : (D : Dataset) (c t u : List ℕ) (f : Frame) → f.mark ≤ length t → f.paths.has_choice ≡ true → u ≡ chosen_issuer t f → MayBeLogged D (ties_at c t f Close)
     → (k : ℕ) (d : List ℕ) → k < length f.others.items → TailMayBeChecked D c f.mark u (get_or f.others.items k d)
@@ -112,22 +88,22 @@ others-may_be_checked D c t u f m has trail may k d h =
     let tail : List ℕ = get_or f.others.items k d in
     record {
       within = chosen-long t u f m trail;
-      exchanged = may (tie_with c f.mark u tail) (subst (λ (ties : List Tie). In (tie_with c f.mark u tail) ties) (ties-are c t u f m has trail) (In-map (tie_with c f.mark u) f.others.items tail (In-get f.others.items k d h)));
+      exchanged = may (tie_with c f.mark u tail)
+          (subst (λ (ties : List Tie). In (tie_with c f.mark u tail) ties) (ties-are c t u f f.others.items m has trail refl)
+          (In-map (tie_with c f.mark u) f.others.items tail (In-get_or f.others.items k d h)));
     }
 
 -- one more of them
-pub others-next : (D : Dataset) (c : List ℕ) (m : ℕ) (t : List ℕ) (done : List (List ℕ)) (tail : List ℕ) (more : List (List ℕ)) (old mid new : LoggedTies) → more ≡ done ++ tail ∷ [] → LogsInTurn D (map (tie_with c m t) done) old mid
+pub others-next : (D : Dataset) (c : List ℕ) (m : ℕ) (t : List ℕ) (done : List (List ℕ)) (tail : List ℕ) (more : List (List ℕ)) (old mid new : LoggedTies) → more ≡ done ++ tail ∷ []
+    → LogsInTurn D (map (tie_with c m t) done) old mid
     → Logs D (record { canon = c; passed = m; left = t; right = right_of m t tail }) mid new → LogsInTurn D (map (tie_with c m t) more) old new
 others-next D c m t done tail more old mid new e h l =
-    subst (λ ties. LogsInTurn D ties old new) (sym (ap (map (tie_with c m t)) e ∙ map-last done))
+    subst (λ ties. LogsInTurn D ties old new) (sym (ap (map (tie_with c m t)) e ∙ map-append (tie_with c m t) done (tail ∷ [])))
     (logs-last D (map (tie_with c m t) done) (tie_with c m t tail) old mid new h (record { carried = record { canon = c; passed = m; left = t; right = right_of m t tail }; is = refl; logs = l }))
-  where
-    map-last : (xs : List (List ℕ)) → map (tie_with c m t) (xs ++ tail ∷ []) ≡ map (tie_with c m t) xs ++ tie_with c m t tail ∷ []
-    map-last [] = refl
-    map-last (x ∷ xs) = ap (λ (ties : List Tie). tie_with c m t x ∷ ties) (map-last xs)
 
 -- so many of them were logged, and no more
-pub front-of_others : (D : Dataset) (c : List ℕ) (m : ℕ) (t : List ℕ) (k : ℕ) (others : List (List ℕ)) (old mid new : LoggedTies) → new ≡ mid → LogsInTurn D (map (tie_with c m t) (take k others)) old mid
+pub front-of_others : (D : Dataset) (c : List ℕ) (m : ℕ) (t : List ℕ) (k : ℕ) (others : List (List ℕ)) (old mid new : LoggedTies) → new ≡ mid
+    → LogsInTurn D (map (tie_with c m t) (take k others)) old mid
     → LogsFront (LogsInTurn D) (map (tie_with c m t) others) old new
 front-of_others D c m t k others old mid new e logs = record {
   front = map (tie_with c m t) (take k others);

@@ -1,8 +1,8 @@
 -- The steps between groups lead on.
-use Rattle.std.proofs.Common.{Bool, List, None, Option, Some, [], ap, cond, false, length, map, refl, sym, take, ℕ, ◌++◌, ◌∙◌, ◌∷◌, ◌≡◌, ◌≤◌, arith}
+use Rattle.std.proofs.Common.{List, [], ap, false, length, refl, sym, take, ℕ, ◌++◌, ◌∙◌, ◌∷◌, ◌≡◌, ◌≤◌, arith}
 use Rattle.std.proofs.lemmas.List.{length-take, length-take-le}
 use Rattle.rdf_terms.specs.Lists.{Text}
-use Rattle.canon_model.specs.CountedRun.{Chosen, Counted, Outcome, Trace, after, nothing, issuer_or, logged, path_or_none, ties_of_chosen}
+use Rattle.canon_model.specs.CountedRun.{Trace, after, nothing, issuer_or, logged, path_or_none, ties_of_chosen}
 use Rattle.arrangements.specs.Arrangements.{IsFirst}
 use Rattle.ndegree_hash.specs.declared.frame.Frame.{Frame}
 use Rattle.ndegree_hash.specs.declared.at.At.TheVariants.{Begin, Close, Group, Return}
@@ -13,8 +13,7 @@ use Rattle.ndegree_hash.specs.Resume.{after_choice, after_groups, between_permut
 use Rattle.ndegree_hash.proofs.Behind.{arrangements-first}
 use Rattle.ndegree_hash.proofs.Traces.{after-nothing}
 use Rattle.ndegree_hash.proofs.Unfolding.{after_groups-end, after_groups-next}
-use Rattle.ndegree_hash.proofs.TrailParts.{take_mark}
-use Rattle.rdf_terms.specs.Arrangements.{arrangements}
+use Rattle.ndegree_hash.proofs.TrailParts.{choice-none, take_mark}
 
 pub group-ends : (c t : List ℕ) (f g : Frame) → f.mark ≤ length t → f.groups ≡ [] → g.text.items ≡ f.text.items → g.mark ≡ f.mark
     → Leads c t f Group nothing t g Return
@@ -34,14 +33,15 @@ pub group-begins : (c t : List ℕ) (f g : Frame) (bag : Bag) → f.mark ≤ len
     → g.mark ≡ length t → g.paths.has_choice ≡ false → g.on_trail ≡ false → Leads c t f Group nothing t g Begin
 group-begins c t f g bag m bags text first mark none aside = record {
   same = λ ρ call.
-      let between : Text → List ℕ → Option Chosen → List (List ℕ) → Counted Outcome = λ π b chosen left. between_permutations ρ call c (record { text = π; bags = g.groups; begun = b; chosen = chosen; left = left }) in
-      let no_choice : choice_of t g ≡ None = ap (λ (b : Bool). cond b (Some (record { path = g.paths.chosen; issuer = cond g.on_trail t (take g.mark t ++ g.tail.items); others = map (λ tail. take g.mark t ++ tail) g.others.items })) None) none in
       ap (λ bs. after_groups ρ call c f.text.items bs t) bags
       ∙ after_groups-next ρ call c f.text.items bag g.groups t
-      ∙ ap (λ π. between π t None (arrangements bag.nodes)) (sym text)
-      ∙ ap (λ b. between g.text.items b None (arrangements bag.nodes)) (sym (take_mark t g.mark mark))
-      ∙ ap (λ chosen. between g.text.items (take g.mark t) chosen (arrangements bag.nodes)) (sym no_choice)
-      ∙ ap (λ left. between g.text.items (take g.mark t) (choice_of t g) left) (arrangements-first bag.nodes g.arrangement first)
+      ∙ (λ i. between_permutations ρ call c (record {
+        text = sym text i;
+        bags = g.groups;
+        begun = sym (take_mark t g.mark mark) i;
+        chosen = sym (choice-none t g none) i;
+        left = arrangements-first bag.nodes g.arrangement first i;
+      }))
       ∙ sym (after-nothing (rest_of ρ call c t g Begin));
   stands = (mark, aside);
   mark = omega arith;
@@ -57,10 +57,7 @@ close-leads c t u f g m trail below text groups mark =
     let ties : Trace = logged (ties_of_chosen (choice_of t f) c (take f.mark t)) in
     let long : f.mark ≤ length u = let e = ap length below in let a = length-take f.mark u in let b = length-take-le f.mark t m in omega arith in
     record {
-      same = λ ρ call.
-          ap (λ i. after ties (after_groups ρ call c (f.text.items ++ path_or_none (choice_of t f)) f.groups i)) (sym trail)
-          ∙ ap (λ π. after ties (after_groups ρ call c π f.groups u)) (sym text)
-          ∙ ap (λ bags. after ties (after_groups ρ call c g.text.items bags u)) (sym groups);
+      same = λ ρ call i. after ties (after_groups ρ call c (sym text i) (sym groups i) (sym trail i));
       stands = omega arith;
       mark = omega arith;
       below = below;

@@ -1,10 +1,7 @@
 -- The frames and the trail hold nodes of the dataset.
-use Rattle.std.proofs.Common.{Bool, List, None, Some, [], ap, cond, map, false, inl, inr, length, refl, subst, suc, sym, take, true, zero, ℕ, ◌++◌, ◌||◌, ◌<◌, ◌∙◌, ◌∷◌, ◌≡◌}
-use Rattle.rdf_terms.specs.Dataset.{Dataset}
-use Rattle.rdf_terms.specs.Lists.{AreDistinct, In, Permutes}
-use Rattle.rdf_terms.proofs.Permutations.{In-Permutes, Permutes-sym}
+use Rattle.std.proofs.Common.{Bool, List, [], ap, cond, false, inl, inr, length, refl, subst, suc, sym, take, true, zero, ℕ, ◌++◌, ◌||◌, ◌<◌, ◌∙◌, ◌∷◌, ◌≡◌}
+use Rattle.rdf_terms.proofs.Common.{Dataset, AreDistinct, In, Permutes, In-Permutes, Permutes-from_equal, Permutes-sym, In-append, In-take, AreDistinct-take}
 use Rattle.arrangements.specs.Arrangements.{IsFirst}
-use Rattle.rdf_terms.proofs.Membership.{In-append}
 use Rattle.canon_model.specs.Issuer.{is_issued}
 use Rattle.canon_model.specs.Walk.{issuer_copy_after_node}
 use Rattle.canon_model.proofs.Issuers.{are_distinct_from_once, are_once-push, are_once_from_distinct, not_In-from_is_issued}
@@ -16,48 +13,32 @@ use Rattle.ndegree_hash.specs.FramePlaces.{IsAt}
 use Rattle.ndegree_hash.specs.KnownNodes.{IsKnown, IsSound, IsTrail}
 use Rattle.ndegree_hash.specs.Frames.{choice_of}
 use Rattle.ndegree_hash.specs.Resume.{OpenGroup}
-use Rattle.ndegree_hash.proofs.TrailParts.{group-same}
+use Rattle.ndegree_hash.proofs.TrailParts.{choice-none, group-same}
 use Rattle.ndegree_hash.proofs.BegunPermutations.{walked-group}
 use Rattle.ndegree_hash.specs.declared.at.At.TheVariants.{Begin}
 
-pub In-take : (x : ℕ) (k : ℕ) (t : List ℕ) → In x (take k t) → In x t
-In-take x zero t h = absurd h
-In-take x (suc k) [] h = h
-In-take x (suc k) (y ∷ t) (inl e) = inl e
-In-take x (suc k) (y ∷ t) (inr h) = inr (In-take x k t h)
-
-AreDistinct-take : (k : ℕ) (t : List ℕ) → AreDistinct t → AreDistinct (take k t)
-AreDistinct-take zero t d = tt
-AreDistinct-take (suc k) [] d = d
-AreDistinct-take (suc k) (y ∷ t) d = ((λ h. d.0 (In-take y k t h)), AreDistinct-take k t d.1)
-
 pub IsTrail-take : (D : Dataset) (c : List ℕ) (k : ℕ) (t : List ℕ) → IsTrail D c t → IsTrail D c (take k t)
 IsTrail-take D c k t r = record {
-  nodes = λ x h. r.nodes x (In-take x k t h);
+  nodes = λ x h. r.nodes x (In-take k t x h);
   once = AreDistinct-take k t r.once;
-  apart = λ x h g. r.apart x h (In-take x k t g);
+  apart = λ x h g. r.apart x h (In-take k t x g);
 }
 
--- the frame has the same groups and the same choice, and the same arrangement or another one of the same nodes
+-- the frame has the same groups, and an arrangement of the same nodes
+known-from : (D : Dataset) (c t u : List ℕ) (f g : Frame) → Permutes f.arrangement g.arrangement → g.groups ≡ f.groups → IsSound D c (choice_of u g) → IsKnown D c t f → IsKnown D c u g
+known-from D c t u f g p e sound k =
+    record { arrangement = λ x h. k.arrangement x (In-Permutes x (Permutes-sym p) h); bags = λ bag h. k.bags bag (subst (λ bags. In bag bags) e h); chosen = sound }
+
+-- and the same choice
 pub known-permuted : (D : Dataset) (c t u : List ℕ) (f g : Frame) → Permutes f.arrangement g.arrangement → g.groups ≡ f.groups → choice_of u g ≡ choice_of t f → IsKnown D c t f → IsKnown D c u g
-known-permuted D c t u f g p e ch k = record {
-  arrangement = λ x h. k.arrangement x (In-Permutes x (Permutes-sym p) h);
-  bags = λ bag h. k.bags bag (subst (λ bags. In bag bags) e h);
-  chosen = subst (IsSound D c) (sym ch) k.chosen;
-}
+known-permuted D c t u f g p e ch k = known-from D c t u f g p e (subst (IsSound D c) (sym ch) k.chosen) k
 
 pub known-same : (D : Dataset) (c t u : List ℕ) (f g : Frame) → g.arrangement ≡ f.arrangement → g.groups ≡ f.groups → choice_of u g ≡ choice_of t f → IsKnown D c t f → IsKnown D c u g
-known-same D c t u f g a e ch k = record {
-  arrangement = λ x h. k.arrangement x (subst (λ xs. In x xs) a h);
-  bags = λ bag h. k.bags bag (subst (λ bags. In bag bags) e h);
-  chosen = subst (IsSound D c) (sym ch) k.chosen;
-}
+known-same D c t u f g a = known-permuted D c t u f g (Permutes-from_equal (sym a))
 
 -- nothing is chosen in a group that was begun just now, or is closed
-pub sound-nothing : (D : Dataset) (c t : List ℕ) (g : Frame) → g.paths.has_choice ≡ false → IsSound D c (choice_of t g)
-sound-nothing D c t g none =
-    let no_choice : choice_of t g ≡ None = ap (λ (b : Bool). cond b (Some (record { path = g.paths.chosen; issuer = cond g.on_trail t (take g.mark t ++ g.tail.items); others = map (λ tail. take g.mark t ++ tail) g.others.items })) None) none in
-    subst (IsSound D c) (sym no_choice) tt
+sound-nothing : (D : Dataset) (c t : List ℕ) (g : Frame) → g.paths.has_choice ≡ false → IsSound D c (choice_of t g)
+sound-nothing D c t g none = subst (IsSound D c) (sym (choice-none t g none)) tt
 
 -- the next group is taken out
 pub known-group : (D : Dataset) (c t : List ℕ) (f g : Frame) (bag : Bag) → f.groups ≡ bag ∷ g.groups → IsFirst bag.nodes g.arrangement → g.paths.has_choice ≡ false → IsKnown D c t f → IsKnown D c t g
@@ -71,11 +52,7 @@ known-group D c t f g bag e first none k =
 
 -- the group is closed
 pub known-closed : (D : Dataset) (c t u : List ℕ) (f g : Frame) → g.arrangement ≡ f.arrangement → g.groups ≡ f.groups → g.paths.has_choice ≡ false → IsKnown D c t f → IsKnown D c u g
-known-closed D c t u f g a e none k = record {
-  arrangement = λ x h. k.arrangement x (subst (λ xs. In x xs) a h);
-  bags = λ bag h. k.bags bag (subst (λ bags. In bag bags) e h);
-  chosen = sound-nothing D c u g none;
-}
+known-closed D c t u f g a e none = known-from D c t u f g (Permutes-from_equal (sym a)) e (sound-nothing D c u g none)
 
 -- ---- the trail issues for a node
 
@@ -97,9 +74,6 @@ IsTrail-node D c t n low r = by (is_issued n c) (is_issued n t) refl refl
 pub keeps_trail-node : (c p i t u : List ℕ) (n : ℕ) → In n p → u ≡ issuer_copy_after_node c t n → KeepsTrail c p i t → KeepsTrail c p i u
 keeps_trail-node c p i t u n h e k = record { keeps = λ D low r. subst (IsTrail D c) (sym e) (IsTrail-node D c t n (low n h) (k.keeps D low r)) }
 
-pub keeps_trail-same : (c p t : List ℕ) → KeepsTrail c p t t
-keeps_trail-same c p t = record { keeps = λ D low r. r }
-
 -- the path goes on
 pub known-goes_on : (D : Dataset) (c t : List ℕ) (f g : Frame) → GoesOn f g → IsKnown D c t f → IsKnown D c t g
 known-goes_on D c t f g s k = known-same D c t t f g s.arrangement s.groups (ap (λ (o : OpenGroup). o.chosen) (group-same t f g [] s)) k
@@ -109,5 +83,6 @@ pub known-begun : (D : Dataset) (c t u : List ℕ) (f g : Frame) → IsAt t f Be
 known-begun D c t u f g at begins s k = known-same D c t u f g s.arrangement s.groups (ap (λ (o : OpenGroup). o.chosen) (group-same u f g [] s ∙ walked-group t u f [] at begins)) k
 
 -- a call was opened
-pub known-opened : (D : Dataset) (c t : List ℕ) (g : Frame) → ((x : ℕ) → In x g.arrangement → x < D.nodes) → ((bag : Bag) → In bag g.groups → (x : ℕ) → In x bag.nodes → x < D.nodes) → g.paths.has_choice ≡ false → IsKnown D c t g
+pub known-opened : (D : Dataset) (c t : List ℕ) (g : Frame) → ((x : ℕ) → In x g.arrangement → x < D.nodes) → ((bag : Bag) → In bag g.groups → (x : ℕ) → In x bag.nodes → x < D.nodes)
+    → g.paths.has_choice ≡ false → IsKnown D c t g
 known-opened D c t g arrangement bags none = record { arrangement = arrangement; bags = bags; chosen = sound-nothing D c t g none }

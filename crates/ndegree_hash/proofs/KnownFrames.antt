@@ -1,13 +1,12 @@
 -- The frames that wait hold nodes of the dataset.
 use Rattle.std.proofs.Common.{List, [], arith, inl, inr, length, refl, subst, suc, sym, take, ℕ, ◌+◌, ◌++◌, ◌∷◌, ◌≡◌, ◌≤◌, ◌⊎◌}
-use Rattle.rdf_terms.specs.Dataset.{Dataset}
-use Rattle.rdf_terms.specs.Lists.{In}
+use Rattle.rdf_terms.proofs.Common.{Dataset, In}
 use Rattle.canon_model.specs.Issuer.{IsValidCall}
 use Rattle.ndegree_hash.specs.declared.frame.Frame.{Frame}
 use Rattle.ndegree_hash.specs.OpenCalls.{AreStacked}
-use Rattle.ndegree_hash.specs.KnownNodes.{AllKnown, IsKnown, IsSound, IsTrail}
-use Rattle.ndegree_hash.specs.OwedTies.{owed_below}
+use Rattle.ndegree_hash.specs.KnownNodes.{IsKnown, IsSound, IsTrail}
 use Rattle.ndegree_hash.proofs.TrailParts.{choice-kept}
+use Rattle.ndegree_hash.proofs.MachineState.{AllKnown, owed_below}
 use Rattle.ndegree_hash.proofs.StackedFrames.{first_mark-most, take_less}
 
 module _ (D : Dataset) (c : List ℕ) where

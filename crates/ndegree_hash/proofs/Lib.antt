@@ -1,3 +1,4 @@
+pub mod MachineState
 pub mod Traces
 pub mod Unfolding
 pub mod Behind

@@ -1,7 +1,7 @@
 -- What the log knows when ties were logged one after the other.
-use Rattle.std.proofs.Common.{List, MatchOption, None, Option, Some, [], ap, arith, inl, inr, length, refl, subst, suc, sym, zero, ℕ, ◌++◌, ◌∙◌, ◌∷◌, ◌≡◌, ◌≤◌, ◌⊎◌, append-nil, append_assoc}
+use Rattle.rdf_terms.proofs.Common.{In-append, Dataset}
+use Rattle.std.proofs.Common.{length-append, ◌+◌, List, MatchOption, None, Option, Some, [], ap, arith, inl, inr, length, refl, subst, suc, sym, zero, ℕ, ◌++◌, ◌∙◌, ◌∷◌, ◌≡◌, ◌≤◌, ◌⊎◌, append-nil, append_assoc}
 use Rattle.std.specs.Prelude.{Err, Ok, OnErr, Result}
-use Rattle.rdf_terms.specs.Dataset.{Dataset}
 use Rattle.canon_model.specs.CountedRun.{Tie}
 use Rattle.canon_model.specs.Ties.{AreJoined}
 use Rattle.ndegree_hash.specs.declared.tie.Tie.{Tie as CarriedTie}
@@ -34,84 +34,119 @@ module _ (D : Dataset) where
   joined-all (t ∷ ties) (inl h) = are_joined-next t ties h.0 (joined-all ties h.1)
   joined-all (t ∷ ties) (inr h) = let m = count-most ties (suc (length ties)) h.1 in absurd (let z : ⊥ = omega arith in z)
 
-  count-unjoined : (t : Tie) (ties : List Tie) (k : ℕ) → ¬ (IsJoinedTie D t) → JoinedCount D ties k → JoinedCount D (t ∷ ties) k
-  count-unjoined t ties zero n h = (n, h)
-  count-unjoined t ties (suc k) n h = inr (n, h)
+  -- ---- one tie
 
-  -- ---- the first that is not
+  kept-joined : (t : Tie) (old new : Option CarriedTie) → IsJoinedTie D t → new ≡ old → MatchOption old (IsFirstOf D (t ∷ []) new) (λ f. new ≡ Some f)
+  kept-joined t None new j e = subst (λ o. IsFirstOf D (t ∷ []) o) (sym e) (are_joined-next t [] j (λ x h. absurd h))
+  kept-joined t (Some f) new j e = e
 
-  first-joined : (t : Tie) (ties : List Tie) (found : Option CarriedTie) → IsJoinedTie D t → IsFirstOf D ties found → IsFirstOf D (t ∷ ties) found
-  first-joined t ties None j a = are_joined-next t ties j a
-  first-joined t ties (Some f) j r = record {
-    before = t ∷ r.before;
+  kept-unjoined : (carried : CarriedTie) (old new : Option CarriedTie) → ¬ (IsJoinedTie D (tie_of carried)) → new ≡ first_of old carried
+      → MatchOption old (IsFirstOf D (tie_of carried ∷ []) new) (λ f. new ≡ Some f)
+  kept-unjoined carried None new n e =
+      let first : IsFirstUnjoined D (tie_of carried ∷ []) (tie_of carried) = record { before = []; behind = []; ties_are = refl; joined_before = λ x h. absurd h; not_joined = n } in
+      subst (λ o. IsFirstOf D (tie_of carried ∷ []) o) (sym e) first
+  kept-unjoined carried (Some f) new n e = e
+
+  logs-one : (carried : CarriedTie) (old new : LoggedTies) → new.total ≡ suc old.total → LogsJoined D carried old new ⊎ LogsUnjoined D carried old new → LogsAll D (tie_of carried ∷ []) old new
+  logs-one carried old new total (inl j) = record {
+    total = omega arith;
+    joined = 1;
+    count = inl (j.is, refl);
+    joined_is = let d = j.joined in omega arith;
+    unsettled = kept-joined (tie_of carried) old.unsettled new.unsettled j.is j.unsettled;
+  }
+  logs-one carried old new total (inr j) = record {
+    total = omega arith;
+    joined = 0;
+    count = (j.is, refl);
+    joined_is = let d = j.joined in omega arith;
+    unsettled = kept-unjoined carried old.unsettled new.unsettled j.is j.unsettled;
+  }
+
+  -- ---- two stretches, one behind the other
+
+  count-append : (a b : List Tie) (j k : ℕ) → JoinedCount D a j → JoinedCount D b k → JoinedCount D (a ++ b) (j + k)
+  count-append [] b j k e h = subst (JoinedCount D b) (let z : j ≡ 0 = e in let s : k ≡ j + k = omega arith in s) h
+  count-append (t ∷ a) b zero k (n, g) h = none (zero + k) n (count-append a b zero k g h)
+    where
+      none : (m : ℕ) → ¬ (IsJoinedTie D t) → JoinedCount D (a ++ b) m → JoinedCount D (t ∷ (a ++ b)) m
+      none zero n g = (n, g)
+      none (suc m) n g = inr (n, g)
+  count-append (t ∷ a) b (suc j) k (inl g) h =
+      let more : JoinedCount D (a ++ b) (j + k) = count-append a b j k g.1 h in
+      let s : suc (j + k) ≡ suc j + k = omega arith in
+      let one : JoinedCount D (t ∷ (a ++ b)) (suc (j + k)) = inl (g.0, more) in
+      subst (JoinedCount D (t ∷ (a ++ b))) s one
+  count-append (t ∷ a) b (suc j) k (inr g) h =
+      let s : suc (j + k) ≡ suc j + k = omega arith in
+      let more : JoinedCount D (a ++ b) (suc (j + k)) = subst (JoinedCount D (a ++ b)) (sym s) (count-append a b (suc j) k g.1 h) in
+      let one : JoinedCount D (t ∷ (a ++ b)) (suc (j + k)) = inr (g.0, more) in
+      subst (JoinedCount D (t ∷ (a ++ b))) s one
+
+  joined-append : (a b : List Tie) → AreJoined D a → AreJoined D b → AreJoined D (a ++ b)
+  joined-append a b f g t h = elim (In-append a b t h) [ inl i ↦ f t i | inr j ↦ g t j ]
+
+  first-behind : (a b : List Tie) (t : Tie) → AreJoined D a → IsFirstUnjoined D b t → IsFirstUnjoined D (a ++ b) t
+  first-behind a b t f r = record {
+    before = a ++ r.before;
     behind = r.behind;
-    ties_are = ap (λ l. t ∷ l) r.ties_are;
-    joined_before = are_joined-next t r.before j r.joined_before;
+    ties_are = ap (λ w. a ++ w) r.ties_are ∙ sym (append_assoc a r.before (t ∷ r.behind));
+    joined_before = joined-append a r.before f r.joined_before;
     not_joined = r.not_joined;
   }
 
-  -- what the log has kept, where the first of the ties is joined
-  kept-joined : (t : Tie) (ties : List Tie) (o m n : Option CarriedTie) → IsJoinedTie D t → m ≡ o → MatchOption m (IsFirstOf D ties n) (λ f. n ≡ Some f) → MatchOption o (IsFirstOf D (t ∷ ties) n) (λ f. n ≡ Some f)
-  kept-joined t ties None m n j e h = first-joined t ties n j (subst (λ v. MatchOption v (IsFirstOf D ties n) (λ f. n ≡ Some f)) e h)
-  kept-joined t ties (Some f) m n j e h = subst (λ v. MatchOption v (IsFirstOf D ties n) (λ f. n ≡ Some f)) e h
+  first-before : (a b : List Tie) (t : Tie) → IsFirstUnjoined D a t → IsFirstUnjoined D (a ++ b) t
+  first-before a b t r = record {
+    before = r.before;
+    behind = r.behind ++ b;
+    ties_are = ap (λ w. w ++ b) r.ties_are ∙ append_assoc r.before (t ∷ r.behind) b;
+    joined_before = r.joined_before;
+    not_joined = r.not_joined;
+  }
 
-  kept-unjoined : (carried : CarriedTie) (ties : List Tie) (o m n : Option CarriedTie) → ¬ (IsJoinedTie D (tie_of carried)) → m ≡ first_of o carried → MatchOption m (IsFirstOf D ties n) (λ f. n ≡ Some f)
-      → MatchOption o (IsFirstOf D (tie_of carried ∷ ties) n) (λ f. n ≡ Some f)
-  kept-unjoined carried ties None m n j e h =
-      let is : n ≡ Some carried = subst (λ v. MatchOption v (IsFirstOf D ties n) (λ f. n ≡ Some f)) e h in
-      let first : IsFirstUnjoined D (tie_of carried ∷ ties) (tie_of carried) = record { before = []; behind = ties; ties_are = refl; joined_before = λ x g. absurd g; not_joined = j } in
-      subst (λ v. IsFirstOf D (tie_of carried ∷ ties) v) (sym is) first
-  kept-unjoined carried ties (Some f) m n j e h = subst (λ v. MatchOption v (IsFirstOf D ties n) (λ f. n ≡ Some f)) e h
+  -- the first that is not joined stands in the first stretch, or in the second where all of the first are joined
+  first-append : (a b : List Tie) (m n : Option CarriedTie) → IsFirstOf D a m → MatchOption m (IsFirstOf D b n) (λ t. n ≡ Some t) → IsFirstOf D (a ++ b) n
+  first-append a b None None f g = joined-append a b f g
+  first-append a b None (Some t) f g = first-behind a b (tie_of t) f g
+  first-append a b (Some t) n f e = subst (IsFirstOf D (a ++ b)) (sym e) (first-before a b (tie_of t) f)
 
-  kept-nothing : (o n : Option CarriedTie) → n ≡ o → MatchOption o (IsFirstOf D [] n) (λ f. n ≡ Some f)
-  kept-nothing None n e = subst (λ v. IsFirstOf D [] v) (sym e) (λ x h. absurd h)
-  kept-nothing (Some f) n e = e
+  kept-append : (a b : List Tie) (o m n : Option CarriedTie) → MatchOption o (IsFirstOf D a m) (λ t. m ≡ Some t) → MatchOption m (IsFirstOf D b n) (λ t. n ≡ Some t)
+      → MatchOption o (IsFirstOf D (a ++ b) n) (λ t. n ≡ Some t)
+  kept-append a b None m n f g = first-append a b m n f g
+  kept-append a b (Some t) m n e g = subst (λ v. MatchOption v (IsFirstOf D b n) (λ s. n ≡ Some s)) e g
+
+  pub logs_all-append : (a b : List Tie) (old mid new : LoggedTies) → LogsAll D a old mid → LogsAll D b mid new → LogsAll D (a ++ b) old new
+  logs_all-append a b old mid new f g = record {
+    total = let e = f.total in let h = g.total in let l = length-append a b in omega arith;
+    joined = f.joined + g.joined;
+    count = count-append a b f.joined g.joined f.count g.count;
+    joined_is = let e = f.joined_is in let h = g.joined_is in omega arith;
+    unsettled = kept-append a b old.unsettled mid.unsettled new.unsettled f.unsettled g.unsettled;
+  }
 
   -- ---- all of them
 
-  next-joined : (carried : CarriedTie) (ties : List Tie) (old mid new : LoggedTies) → mid.total ≡ suc old.total → LogsJoined D carried old mid → LogsAll D ties mid new → LogsAll D (tie_of carried ∷ ties) old new
-  next-joined carried ties old mid new total j r = record {
-    total = let e = r.total in omega arith;
-    joined = suc r.joined;
-    count = inl (j.is, r.count);
-    joined_is = let e = r.joined_is in let d = j.joined in omega arith;
-    unsettled = kept-joined (tie_of carried) ties old.unsettled mid.unsettled new.unsettled j.is j.unsettled r.unsettled;
-  }
-
-  next-unjoined : (carried : CarriedTie) (ties : List Tie) (old mid new : LoggedTies) → mid.total ≡ suc old.total → LogsUnjoined D carried old mid → LogsAll D ties mid new → LogsAll D (tie_of carried ∷ ties) old new
-  next-unjoined carried ties old mid new total j r = record {
-    total = let e = r.total in omega arith;
-    joined = r.joined;
-    count = count-unjoined (tie_of carried) ties r.joined j.is r.count;
-    joined_is = let e = r.joined_is in let d = j.joined in omega arith;
-    unsettled = kept-unjoined carried ties old.unsettled mid.unsettled new.unsettled j.is j.unsettled r.unsettled;
-  }
-
-  next-logged : (carried : CarriedTie) (ties : List Tie) (old mid new : LoggedTies) → mid.total ≡ suc old.total → LogsJoined D carried old mid ⊎ LogsUnjoined D carried old mid → LogsAll D ties mid new → LogsAll D (tie_of carried ∷ ties) old new
-  next-logged carried ties old mid new total (inl j) r = next-joined carried ties old mid new total j r
-  next-logged carried ties old mid new total (inr j) r = next-unjoined carried ties old mid new total j r
+  pub logs-none : (log : LoggedTies) → LogsAll D [] log log
+  logs-none log = record { total = omega arith; joined = 0; count = refl; joined_is = omega arith; unsettled = none log.unsettled }
+    where
+      none : (o : Option CarriedTie) → MatchOption o (IsFirstOf D [] o) (λ f. o ≡ Some f)
+      none None = λ x h. absurd h
+      none (Some f) = refl
 
   pub logs-all : (ties : List Tie) (old new : LoggedTies) → LogsInTurn D ties old new → LogsAll D ties old new
-  logs-all [] old new e = record {
-    total = let d = ap (λ (l : LoggedTies). l.total) e in omega arith;
-    joined = 0;
-    count = refl;
-    joined_is = let d = ap (λ (l : LoggedTies). l.joined) e in omega arith;
-    unsettled = kept-nothing old.unsettled new.unsettled (ap (λ (l : LoggedTies). l.unsettled) e);
-  }
+  logs-all [] old new e = subst (λ log. LogsAll D [] old log) (sym e) (logs-none old)
   logs-all (t ∷ ties) old new p =
-      subst (λ x. LogsAll D (x ∷ ties) old new) p.1.is (next-logged p.1.carried ties old p.0 new p.1.logs.total p.1.logs.judged (logs-all ties p.0 new p.2))
+      subst (λ x. LogsAll D (x ∷ ties) old new) p.1.is
+      (logs_all-append (tie_of p.1.carried ∷ []) ties old p.0 new (logs-one p.1.carried old p.0 p.1.logs.total p.1.logs.judged) (logs-all ties p.0 new p.2))
 
   -- ---- where a call stops before its end
-
-  pub front-unchanged : (ties : List Tie) (old new : LoggedTies) → new ≡ old → LogsFront (LogsInTurn D) ties old new
-  front-unchanged ties old new e = record { front = []; others = ties; ties_are = refl; logs = e }
 
   pub front-whole : (ties : List Tie) (old new : LoggedTies) → LogsInTurn D ties old new → LogsFront (LogsInTurn D) ties old new
   front-whole ties old new l = record { front = ties; others = []; ties_are = sym (append-nil ties); logs = l }
 
   -- some ties, and the first of some more
-  pub front-append : (a b rest whole : List Tie) (old mid new : LoggedTies) → a ++ (b ++ rest) ≡ whole → LogsInTurn D a old mid → LogsFront (LogsInTurn D) b mid new → LogsFront (LogsInTurn D) whole old new
+  pub front-append : (a b rest whole : List Tie) (old mid new : LoggedTies) → a ++ (b ++ rest) ≡ whole → LogsInTurn D a old mid → LogsFront (LogsInTurn D) b mid new
+      → LogsFront (LogsInTurn D) whole old new
   front-append a b rest whole old mid new e l f = record {
     front = a ++ f.front;
     others = f.others ++ rest;

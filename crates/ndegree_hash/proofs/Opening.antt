@@ -1,7 +1,6 @@
 -- A call that is begun: its groups as a list of bags.
 use Rattle.std.proofs.Common.{List, None, Option, [], ap, refl, sym, ℕ, ◌++◌, ◌∙◌, ◌∷◌, ◌≡◌}
-use Rattle.rdf_terms.specs.Dataset.{Dataset}
-use Rattle.rdf_terms.specs.Lists.{Text}
+use Rattle.rdf_terms.proofs.Common.{Dataset, Text, arrangements}
 use Rattle.canon_model.specs.CountedRun.{Chosen, Counted, CountedCall, Outcome, after, counted_groups, counted_permutations, followed_by, issuer_or, logged, one_unit, path_or_none, ties_of_chosen}
 use Rattle.canon_model.specs.Groups.{groups}
 use Rattle.canon_model.specs.Hashing.{Hashing}
@@ -11,7 +10,6 @@ use Rattle.related_hash.specs.Grouping.{AreGroups as AreBags}
 use Rattle.related_hash.specs.declared.group.Group.{Group as Bag}
 use Rattle.ndegree_hash.specs.Resume.{after_groups}
 use Rattle.ndegree_hash.proofs.Behind.{arrangements-Permutes}
-use Rattle.rdf_terms.specs.Arrangements.{arrangements}
 
 module _ (call : CountedCall) (c : List ℕ) where
   abbrev group : Text → List ℕ → Counted (Option Chosen) → Counted Outcome → Counted Outcome
@@ -25,10 +23,13 @@ module _ (call : CountedCall) (c : List ℕ) where
   counted_groups-bags nodes [] (bag ∷ bags) i a = absurd a
   counted_groups-bags nodes (hash ∷ hashes) [] i a = absurd a
   counted_groups-bags nodes (hash ∷ hashes) (bag ∷ bags) i a =
-      let same : counted_permutations call None c i (arrangements (nodes hash)) ≡ counted_permutations call None c i (arrangements bag.nodes) = ap (λ ps. counted_permutations call None c i ps) (arrangements-Permutes (nodes hash) bag.nodes a.1) in
+      let same : counted_permutations call None c i (arrangements (nodes hash))
+      ≡ counted_permutations call None c i (arrangements bag.nodes) = ap (λ ps. counted_permutations call None c i ps) (arrangements-Permutes (nodes hash) bag.nodes a.1) in
       ap (λ t. group hash i t (counted_groups call c nodes hashes (issuer_or t.value i))) same
-      ∙ ap (λ rest. group hash i (counted_permutations call None c i (arrangements bag.nodes)) rest) (counted_groups-bags nodes hashes bags (issuer_or (counted_permutations call None c i (arrangements bag.nodes)).value i) a.2)
-      ∙ ap (λ h. group h i (counted_permutations call None c i (arrangements bag.nodes)) (counted_bags call c bags (issuer_or (counted_permutations call None c i (arrangements bag.nodes)).value i))) (sym a.0)
+      ∙ ap (λ rest. group hash i (counted_permutations call None c i (arrangements bag.nodes)) rest)
+      (counted_groups-bags nodes hashes bags (issuer_or (counted_permutations call None c i (arrangements bag.nodes)).value i) a.2)
+      ∙ ap (λ h. group h i (counted_permutations call None c i (arrangements bag.nodes)) (counted_bags call c bags (issuer_or (counted_permutations call None c i (arrangements bag.nodes)).value i)))
+      (sym a.0)
 
 -- a call costs one unit, and begins with no data and all its bags
 pub counted_step-opens : (ρ : Hashing) (call : CountedCall) (D : Dataset) (c : List ℕ) (n : ℕ) (i : List ℕ) (bags : List Bag) → AreBags (groups ρ D c i n).nodes (groups ρ D c i n).hashes bags

@@ -1,8 +1,7 @@
 -- The machine keeps its state.
 use Rattle.std.proofs.Common.{List, [], ap, arith, length, map, refl, subst, suc, sym, take, ℕ, ◌+◌, ◌++◌, ◌<◌, ◌∙◌, ◌∷◌, ◌≡◌, ◌≤◌, append-nil}
 use Rattle.std.proofs.lemmas.List.{map-append}
-use Rattle.rdf_terms.specs.Dataset.{Dataset}
-use Rattle.rdf_terms.specs.Lists.{In, Text}
+use Rattle.rdf_terms.proofs.Common.{Dataset, In, Text, In-append_left, In-append_right}
 use Rattle.canon_model.specs.CountedRun.{Counted, CountedCall, Outcome, Tie, Trace, after, counted_groups, is_skipped, issuer_or, logged, followed_by, nothing, one_unit, path_or_none}
 use Rattle.canon_model.specs.Ties.{IsTie}
 use Rattle.canon_model.specs.Groups.{groups}
@@ -12,23 +11,24 @@ use Rattle.canon_model.specs.Recursion.{counted_step}
 use Rattle.ndegree_hash.specs.declared.frame.Frame.{Frame}
 use Rattle.ndegree_hash.specs.declared.at.At.{At}
 use Rattle.ndegree_hash.specs.declared.at.At.TheVariants.{Begin, Between, Call, Close, Ended, Group, Recursion, Return}
-use Rattle.ndegree_hash.specs.OpenCalls.{Account, AreStacked, IsFinished, IsOpened, IsResumed, IsRunning, whole_of}
+use Rattle.ndegree_hash.specs.OpenCalls.{Account, AreStacked, IsFinished, IsOpened, IsResumed}
 use Rattle.ndegree_hash.specs.FrameSteps.{Leads}
 use Rattle.ndegree_hash.specs.OwedTies.{MayBeLogged, ties_at}
 use Rattle.ndegree_hash.specs.Frames.{choice_of, rest_of, waiting_of}
 use Rattle.ndegree_hash.specs.Log.{LoggedTies, LogsFront, LogsInTurn}
-use Rattle.ndegree_hash.specs.Resume.{after_choice, after_groups, resume, resume_all, resumed}
+use Rattle.ndegree_hash.specs.Resume.{after_choice, after_groups, resume, resumed}
 use Rattle.ndegree_hash.proofs.BegunPermutations.{begin-unfolds, begun}
 use Rattle.ndegree_hash.proofs.Logging.{front-append, logs-all, logs-append}
-use Rattle.rdf_terms.proofs.Membership.{In-append_left, In-append_right}
 use Rattle.ndegree_hash.proofs.Opening.{counted_step-opens}
 use Rattle.ndegree_hash.proofs.Traces.{after-after, after-nothing}
 use Rattle.ndegree_hash.proofs.Unfolding.{resume_all-after, resume_all-append}
+use Rattle.ndegree_hash.proofs.MachineState.{IsRunning, resume_all, whole_of}
 use Rattle.ndegree_hash.proofs.StackedFrames.{all_waiting-kept, stacked-more, stacked-pop, stacked-push}
 
 module _ (ρ : Hashing) (D : Dataset) (call : CountedCall) (c : List ℕ) (whole : Counted Outcome) (before : Account) where
   -- a step of the running frame
-  pub running-leads : (t u : List ℕ) (below : List Frame) (f g : Frame) (at to : At) (now : Account) (trace : Trace) (log : LoggedTies) → IsRunning ρ D call c whole before t below f at now → Leads c t f at trace u g to
+  pub running-leads : (t u : List ℕ) (below : List Frame) (f g : Frame) (at to : At) (now : Account) (trace : Trace) (log : LoggedTies) → IsRunning ρ D call c whole before t below f at now
+      → Leads c t f at trace u g to
       → LogsInTurn D trace.ties now.log log → IsRunning ρ D call c whole before u below g to (record { spent = now.spent + trace.units; log = log })
   running-leads t u below f g at to now trace log r l logs = record {
     trace = followed_by r.trace trace;
@@ -70,7 +70,8 @@ module _ (ρ : Hashing) (D : Dataset) (call : CountedCall) (c : List ℕ) (whole
       }
 
   -- the running call gives its hash, and the one around it goes on
-  pub running-leaves : (t : List ℕ) (below rest : List Frame) (f g : Frame) (hash : Text) (to : At) (now : Account) → hash ≡ ρ.hash f.text.items → IsRunning ρ D call c whole before t below f Return now → IsResumed c t below hash rest g to
+  pub running-leaves : (t : List ℕ) (below rest : List Frame) (f g : Frame) (hash : Text) (to : At) (now : Account) → hash ≡ ρ.hash f.text.items
+      → IsRunning ρ D call c whole before t below f Return now → IsResumed c t below hash rest g to
       → IsRunning ρ D call c whole before t rest g to now
   running-leaves t below rest f g hash to now is r l =
       let popped = stacked-pop rest l.caller f.mark (subst (λ fs. AreStacked fs f.mark) l.below_is r.stacked) in
@@ -90,7 +91,8 @@ module _ (ρ : Hashing) (D : Dataset) (call : CountedCall) (c : List ℕ) (whole
       }
 
   -- no call is around the running one, so what it gives is the whole
-  pub running-ends : (t : List ℕ) (f : Frame) (now : Account) → (r : IsRunning ρ D call c whole before t [] f Return now) → after r.trace (record { trace = nothing; value = record { text = ρ.hash f.text.items; issuer = t } }) ≡ whole
+  pub running-ends : (t : List ℕ) (f : Frame) (now : Account) → (r : IsRunning ρ D call c whole before t [] f Return now)
+      → after r.trace (record { trace = nothing; value = record { text = ρ.hash f.text.items; issuer = t } }) ≡ whole
   unfolding resume_all
   running-ends t f now r = r.same
 
@@ -108,7 +110,8 @@ running-begins ρ call D c n before t f o step = record {
 }
 
 -- what is left is no part of what was counted, so a unit that is still to be spent is one more
-pub running-has_more : (ρ : Hashing) (D : Dataset) (call : CountedCall) (c : List ℕ) (whole : Counted Outcome) (before : Account) (t : List ℕ) (below : List Frame) (f : Frame) (at : At) (now : Account) (rest : Counted Outcome)
+pub running-has_more : (ρ : Hashing) (D : Dataset) (call : CountedCall) (c : List ℕ) (whole : Counted Outcome) (before : Account) (t : List ℕ) (below : List Frame) (f : Frame) (at : At)
+    (now : Account) (rest : Counted Outcome)
     → IsRunning ρ D call c whole before t below f at now → rest_of ρ call c t f at ≡ after one_unit rest → now.spent < before.spent + whole.trace.units
 running-has_more ρ D call c whole before t below f at now rest r e =
     let total = ap (λ (o : Counted Outcome). o.trace.units) r.same in
@@ -135,24 +138,16 @@ running-logs ρ D call c whole before t below f now r tie h =
     let all = running-ties ρ D call c whole before t below f now r in
     subst (λ l. In tie l) all.1 (In-append_right r.trace.ties (ties_at c t f Close ++ all.0) tie (In-append_left (ties_at c t f Close) all.0 tie h))
 
--- what was logged so far are the first ties of the whole
-pub running-front : (ρ : Hashing) (D : Dataset) (call : CountedCall) (c : List ℕ) (whole : Counted Outcome) (before : Account) (t : List ℕ) (below : List Frame) (f : Frame) (at : At) (now : Account)
-    → IsRunning ρ D call c whole before t below f at now → LogsFront (LogsInTurn D) whole.trace.ties before.log now.log
-running-front ρ D call c whole before t below f at now r = record {
-  front = r.trace.ties;
-  others = (whole_of ρ call c t below f at).trace.ties;
-  ties_are = sym (ap (λ (o : Counted Outcome). o.trace.ties) r.same);
-  logs = r.logs;
-}
-
-module _ (ρ : Hashing) (D : Dataset) (call : CountedCall) (c : List ℕ) (whole : Counted Outcome) (before : Account) (t : List ℕ) (below : List Frame) (f : Frame) (at : At) (now : Account) (r : IsRunning ρ D call c whole before t below f at now) where
+module _ (ρ : Hashing) (D : Dataset) (call : CountedCall) (c : List ℕ) (whole : Counted Outcome) (before : Account) (t : List ℕ) (below : List Frame) (f : Frame) (at : At) (now : Account)
+    (r : IsRunning ρ D call c whole before t below f at now) where
   pub running-at : (to : At) → at ≡ to → IsRunning ρ D call c whole before t below f to now
   running-at to e = subst (λ a. IsRunning ρ D call c whole before t below f a now) e r
 
   pub over-begin : at ≡ Begin → now.spent < before.spent + whole.trace.units
   over-begin e =
       let s = running-at Begin e in
-      running-has_more ρ D call c whole before t below f Begin now (begun ρ call c t f (is_skipped (chosen_if f.paths.has_choice f.paths.chosen) c t [] f.arrangement) t) s (begin-unfolds ρ call c t f s.stands)
+      running-has_more ρ D call c whole before t below f Begin now (begun ρ call c t f (is_skipped (chosen_if f.paths.has_choice f.paths.chosen) c t [] f.arrangement) t) s
+      (begin-unfolds ρ call c t f s.stands)
 
   pub over-call : (n : ℕ) → at ≡ Call n → call n t ≡ counted_step call ρ D c n t → now.spent < before.spent + whole.trace.units
   over-call n e step =
@@ -162,12 +157,14 @@ module _ (ρ : Hashing) (D : Dataset) (call : CountedCall) (c : List ℕ) (whole
       running-has_more ρ D call c whole before t below f (Call n) now (resumed ρ call c (waiting_of t f) o) s
       (ap (λ v. resumed ρ call c (waiting_of t f) v) step ∙ sym (after-after one_unit o.trace (resume ρ call c (waiting_of t f) o.value)))
 
-  pub begin-keeps : (u : List ℕ) (g : Frame) (to : At) (spent : ℕ) → at ≡ Begin → Leads c t f Begin one_unit u g to → spent ≡ suc now.spent → IsRunning ρ D call c whole before u below g to (record { spent = spent; log = now.log })
+  pub begin-keeps : (u : List ℕ) (g : Frame) (to : At) (spent : ℕ) → at ≡ Begin → Leads c t f Begin one_unit u g to → spent ≡ suc now.spent
+      → IsRunning ρ D call c whole before u below g to (record { spent = spent; log = now.log })
   begin-keeps u g to spent e l n =
       subst (λ k. IsRunning ρ D call c whole before u below g to (record { spent = k; log = now.log })) (let z : now.spent + 1 ≡ spent = omega arith in z)
       (running-leads ρ D call c whole before t u below f g Begin to now one_unit now.log (running-at Begin e) l refl)
 
-  pub step-keeps : (u : List ℕ) (g : Frame) (to : At) (log : LoggedTies) → Leads c t f at (logged (ties_at c t f at)) u g to → LogsInTurn D (ties_at c t f at) now.log log → IsRunning ρ D call c whole before u below g to (record { spent = now.spent; log = log })
+  pub step-keeps : (u : List ℕ) (g : Frame) (to : At) (log : LoggedTies) → Leads c t f at (logged (ties_at c t f at)) u g to → LogsInTurn D (ties_at c t f at) now.log log
+      → IsRunning ρ D call c whole before u below g to (record { spent = now.spent; log = log })
   step-keeps u g to log l logs =
       subst (λ k. IsRunning ρ D call c whole before u below g to (record { spent = k; log = log })) (let z : now.spent + 0 ≡ now.spent = omega arith in z)
       (running-leads ρ D call c whole before t u below f g at to now (logged (ties_at c t f at)) log r l logs)
@@ -182,7 +179,8 @@ module _ (ρ : Hashing) (D : Dataset) (call : CountedCall) (c : List ℕ) (whole
   pub return-stacked : at ≡ Return → AreStacked below (length t)
   return-stacked e = let s = running-at Return e in stacked-more below f.mark (length t) s.stands s.stacked
 
-  pub return-keeps : (hash : Text) (rest : List Frame) (g : Frame) (to : At) → at ≡ Return → hash ≡ ρ.hash f.text.items → IsResumed c t below hash rest g to → IsRunning ρ D call c whole before t rest g to now
+  pub return-keeps : (hash : Text) (rest : List Frame) (g : Frame) (to : At) → at ≡ Return → hash ≡ ρ.hash f.text.items → IsResumed c t below hash rest g to
+      → IsRunning ρ D call c whole before t rest g to now
   return-keeps hash rest g to e is l = running-leaves ρ D call c whole before t below rest f g hash to now is (running-at Return e) l
 
   pub return-ends : (hash : Text) → at ≡ Return → hash ≡ ρ.hash f.text.items → below ≡ [] → IsFinished D whole before hash t now
@@ -231,8 +229,6 @@ module _ (ρ : Hashing) (D : Dataset) (call : CountedCall) (c : List ℕ) (whole
       by (Call n) s = λ tie h. absurd h
       by Return s = λ tie h. absurd h
 
-pub IsRunning-calls : (ρ : Hashing) (D : Dataset) (call : CountedCall) (c : List ℕ) (whole : Counted Outcome) (before : Account) (t : List ℕ) (below : List Frame) (f : Frame) (at : At) (now : Account) (n : ℕ) → IsRunning ρ D call c whole before t below f at now → at ≡ Call n → In n t
+pub IsRunning-calls : (ρ : Hashing) (D : Dataset) (call : CountedCall) (c : List ℕ) (whole : Counted Outcome) (before : Account) (t : List ℕ) (below : List Frame) (f : Frame) (at : At) (now : Account)
+    (n : ℕ) → IsRunning ρ D call c whole before t below f at now → at ≡ Call n → In n t
 IsRunning-calls ρ D call c whole before t below f at now n r e = (running-at ρ D call c whole before t below f at now r (Call n) e).stands.1
-
-pub IsRunning-stacked : (ρ : Hashing) (D : Dataset) (call : CountedCall) (c : List ℕ) (whole : Counted Outcome) (before : Account) (t : List ℕ) (below : List Frame) (f : Frame) (at : At) (now : Account) → IsRunning ρ D call c whole before t below f at now → AreStacked below f.mark
-IsRunning-stacked ρ D call c whole before t below f at now r = r.stacked

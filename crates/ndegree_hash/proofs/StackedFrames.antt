@@ -1,34 +1,30 @@
 -- The frames that wait: they don't see the trail behind the marks, and one is put on top or taken off.
-use Rattle.std.proofs.Common.{List, [], ap, arith, drop, false, map, refl, suc, sym, take, zero, ℕ, ◌+◌, ◌++◌, ◌∙◌, ◌∷◌, ◌≡◌, ◌≤◌, ◌-◌}
-use Rattle.std.proofs.lemmas.List.{drop-take}
+use Rattle.std.proofs.Common.{List, [], ap, arith, drop, false, map, refl, sym, take, ℕ, ◌+◌, ◌++◌, ◌∙◌, ◌∷◌, ◌≡◌, ◌≤◌, ◌-◌}
+use Rattle.std.proofs.lemmas.List.{drop-take, take-take}
 use Rattle.ndegree_hash.specs.declared.frame.Frame.{Frame}
 use Rattle.ndegree_hash.specs.Behind.{behind}
 use Rattle.ndegree_hash.specs.OpenCalls.{AreStacked, first_mark}
-use Rattle.ndegree_hash.specs.Frames.{choice_of, group_of, part, waiting_of}
+use Rattle.ndegree_hash.specs.Frames.{part, waiting_of}
 use Rattle.ndegree_hash.proofs.TrailParts.{choice-kept}
 
-take-take_less : (k m : ℕ) (xs : List ℕ) → k ≤ m → take k (take m xs) ≡ take k xs
-take-take_less zero m xs h = refl
-take-take_less (suc k) zero xs h = absurd (let z : ⊥ = omega arith in z)
-take-take_less (suc k) (suc m) [] h = refl
-take-take_less (suc k) (suc m) (x ∷ xs) h = ap (λ ys. x ∷ ys) (take-take_less k m xs (omega arith))
-
 pub take_less : (t u : List ℕ) (k m : ℕ) → k ≤ m → take m t ≡ take m u → take k t ≡ take k u
-take_less t u k m h e = sym (take-take_less k m t h) ∙ ap (λ xs. take k xs) e ∙ take-take_less k m u h
+take_less t u k m h e = sym (take-take k m t h) ∙ ap (λ xs. take k xs) e ∙ take-take k m u h
 
-part-front : (t : List ℕ) (from to : ℕ) → from ≤ to → part t from to ≡ drop from (take to t)
+part-take : (t : List ℕ) (from to : ℕ) → from ≤ to → part t from to ≡ drop from (take to t)
 unfolding part
-part-front t from to h = sym (drop-take from (to - from) t) ∙ ap (λ n. drop from (take n t)) (let e : from + (to - from) ≡ to = omega arith in e)
+part-take t from to h = sym (drop-take from (to - from) t) ∙ ap (λ n. drop from (take n t)) (let e : from + (to - from) ≡ to = omega arith in e)
 
 part_less : (t u : List ℕ) (from to m : ℕ) → from ≤ to → to ≤ m → take m t ≡ take m u → part t from to ≡ part u from to
-part_less t u from to m g h e = part-front t from to g ∙ ap (λ xs. drop from xs) (take_less t u to m h e) ∙ sym (part-front u from to g)
+part_less t u from to m g h e = part-take t from to g ∙ ap (λ xs. drop from xs) (take_less t u to m h e) ∙ sym (part-take u from to g)
 
 pub waiting-kept : (t u : List ℕ) (f : Frame) (m : ℕ) → f.mark ≤ f.next → f.next ≤ f.last → f.last ≤ m → f.on_trail ≡ false → take m u ≡ take m t → waiting_of u f ≡ waiting_of t f
 waiting-kept t u f m a b d aside e =
     let low : take f.mark u ≡ take f.mark t = take_less u t f.mark m (omega arith) e in
-    ap (λ (nodes : List ℕ). record { group = group_of u f (behind f.arrangement); path = f.paths.path; nodes = nodes }) (part_less u t f.next f.last m b d e)
-    ∙ ap (λ ch. record { group = record { text = f.text.items; bags = f.groups; begun = take f.mark u; chosen = ch; left = behind f.arrangement }; path = f.paths.path; nodes = part t f.next f.last }) (choice-kept t u f aside low)
-    ∙ ap (λ b. record { group = record { text = f.text.items; bags = f.groups; begun = b; chosen = choice_of t f; left = behind f.arrangement }; path = f.paths.path; nodes = part t f.next f.last }) low
+    λ i. record {
+      group = record { text = f.text.items; bags = f.groups; begun = low i; chosen = choice-kept t u f aside low i; left = behind f.arrangement };
+      path = f.paths.path;
+      nodes = part_less u t f.next f.last m b d e i;
+    }
 
 pub first_mark-most : (below : List Frame) (m : ℕ) → AreStacked below m → first_mark below m ≤ m
 first_mark-most [] m s = omega arith

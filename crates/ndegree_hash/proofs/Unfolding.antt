@@ -1,15 +1,15 @@
 -- Each step of a call leaves what it gives in the end as it was, but for what the step itself counts and logs.
 use Rattle.std.proofs.Common.{Bool, List, None, Option, Some, [], ap, codes, cond, false, refl, subst, sym, true, ℕ, ◌++◌, ◌∙◌, ◌∷◌, ◌≡◌, append-nil, append_assoc}
-use Rattle.rdf_terms.specs.Lists.{Text}
+use Rattle.rdf_terms.proofs.Common.{Text, arrangements}
 use Rattle.canon_model.specs.CountedRun.{Chosen, Counted, CountedCall, Outcome, Trace, after, choose, chosen_text, counted_permutations, counted_recursion, followed_by, is_skipped, issuer_or, logged, nothing, one_unit, path_or_none, skips, ties_of_chosen}
 use Rattle.canon_model.specs.Issuer.{label}
 use Rattle.canon_model.specs.Hashing.{Hashing}
 use Rattle.canon_model.specs.Walk.{issuer_copy_after, path_of_identifiers, path_of_result, recursion_list}
 use Rattle.ndegree_hash.specs.Bags.{counted_bags}
 use Rattle.related_hash.specs.declared.group.Group.{Group as Bag}
-use Rattle.ndegree_hash.specs.Resume.{OpenGroup, Waiting, after_choice, after_groups, after_permutation, begin_permutation, between_permutations, in_recursion, resume, resume_all, resumed}
+use Rattle.ndegree_hash.specs.Resume.{OpenGroup, Waiting, after_choice, after_groups, after_permutation, between_permutations, in_recursion, resume, resumed}
 use Rattle.ndegree_hash.proofs.Traces.{after-after, after-nothing}
-use Rattle.rdf_terms.specs.Arrangements.{arrangements}
+use Rattle.ndegree_hash.proofs.MachineState.{begin_permutation, resume_all}
 
 module _ (ρ : Hashing) (call : CountedCall) (c : List ℕ) where
   -- ---- the recursion list
@@ -81,7 +81,10 @@ module _ (ρ : Hashing) (call : CountedCall) (c : List ℕ) where
       finished : Option Outcome → Counted (Option Chosen)
       finished o = counted_permutations call (choose g.chosen o) c g.begun ps
 
-      by : (s : Bool) → whole (goes_on (tried s)) ≡ after one_unit (cond s (after_permutation ρ call c behind None) (in_recursion ρ call c behind (path_of_identifiers c g.begun p) (issuer_copy_after c g.begun p) (recursion_list c g.begun p)))
+      by : (s : Bool)
+          → whole (goes_on (tried s))
+          ≡ after one_unit
+          (cond s (after_permutation ρ call c behind None) (in_recursion ρ call c behind (path_of_identifiers c g.begun p) (issuer_copy_after c g.begun p) (recursion_list c g.begun p)))
       by true = sym (after-after one_unit (finished None).trace (after_choice ρ call c g (finished None).value))
       by false =
           let end : Counted Outcome = after_choice ρ call c g (finished rest.value).value in

@@ -1,7 +1,6 @@
 -- One call of Hash N-Degree Quads (RDF Dataset Canonicalization, section 4.8) under a budget.
 use Rattle.std.specs.Prelude.{◌≡◌, ℕ, ◌+◌, ◌<◌, ◌≤◌, List}
-use Rattle.rdf_terms.specs.Lists.{Text}
-use Rattle.rdf_terms.specs.Dataset.{Dataset}
+use Rattle.rdf_terms.specs.Vocabulary.{Text, Dataset}
 use Rattle.canon_model.specs.Hashing.{Hashing}
 use Rattle.canon_model.specs.Issuer.{IsValidCall}
 use Rattle.canon_model.specs.Outcome.{HashNDegreeQuads}
@@ -17,7 +16,8 @@ abbrev pub value_of_call : Hashing → Dataset → List ℕ → ℕ → List ℕ
 value_of_call ρ D c n i = (counted_call ρ D c n i).value
 
 -- the hash and the list that a call gives: an outcome that the standard allows, and among these that of the counted run
-pub record IsCallResult (ρ : Hashing) (D : Dataset) (c : List ℕ) (n : ℕ) (i : List ℕ) (hash : Text) (j : List ℕ) : Type 0 where
+pub record IsCallResult (ρ : Hashing) (D : Dataset) (c : List ℕ) (n : ℕ) (i : List ℕ) (hash : Text)
+    (j : List ℕ) : Type 0 where
   pub outcome : HashNDegreeQuads ρ D c n i hash j
   pub valid : IsValidCall D c n j
   pub hash_is : hash ≡ (value_of_call ρ D c n i).text
@@ -40,4 +40,6 @@ LogsFrontOfCall ρ D c n i old new = LogsFront (LogsAll D) (trace_of_call ρ D c
 
 -- each outcome of the call is this one but for a symmetry that fixes the issuers passed in
 abbrev pub IsOnlyOutcome : Hashing → Dataset → List ℕ → ℕ → List ℕ → Type 0
-IsOnlyOutcome ρ D c n i = (hash : Text) (j : List ℕ) → HashNDegreeQuads ρ D c n i hash j → IsSameButForSymmetry D c i (value_of_call ρ D c n i) hash j
+IsOnlyOutcome ρ D c n i =
+    (hash : Text) (j : List ℕ) → HashNDegreeQuads ρ D c n i hash j
+    → IsSameButForSymmetry D c i (value_of_call ρ D c n i) hash j

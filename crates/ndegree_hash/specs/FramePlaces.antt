@@ -1,5 +1,5 @@
 -- The places of a frame: what is true of its numbers there, and how steps come to an end.
-use Rattle.std.specs.Prelude.{◌≡◌, ℕ, ◌-◌, ◌+◌, ◌*◌, ◌≤◌, false, List, length}
+use Rattle.std.specs.Prelude.{◌≡◌, ℕ, ◌≤◌, false, List, length}
 use Rattle.rdf_terms.specs.Lists.{In}
 use Rattle.ndegree_hash.specs.declared.frame.Frame.{Frame}
 use Rattle.ndegree_hash.specs.declared.at.At.{At}
@@ -17,37 +17,24 @@ pub record IsInRecursion (t : List ℕ) (f : Frame) : Type 0 where
   pub aside : f.on_trail ≡ false
 
 abbrev pub IsAt : List ℕ → Frame → At → Type 0
-IsAt t f Group = f.mark ≤ length t
 IsAt t f Begin = (f.mark ≡ length t) × (f.on_trail ≡ false)
 IsAt t f Recursion = IsInRecursion t f
 IsAt t f Ended = IsInGroup t f
-IsAt t f Between = f.mark ≤ length t
-IsAt t f Close = f.mark ≤ length t
 IsAt t f (Call n) = IsInRecursion t f × In n t
-IsAt t f Return = f.mark ≤ length t
+IsAt t f at = f.mark ≤ length t
 
 -- without a unit spent a step goes to a place of a lower rank
 abbrev pub rank : At → ℕ
-rank Group = 1
-rank Begin = 0
 rank Recursion = 5
 rank Ended = 4
 rank Between = 3
 rank Close = 2
-rank (Call n) = 0
-rank Return = 0
-
--- falls with each step, as a unit is worth more than a frame, and a frame more than any rank
-abbrev pub work_left : ℕ → ℕ → List Frame → At → ℕ
-work_left limit spent below at = 8 * (limit - spent) + 6 * length below + rank at
+rank Group = 1
+rank at = 0
 
 -- a place from which a step spends no unit, within one frame
 abbrev pub IsWithin : At → Type 0
-IsWithin Group = Unit {0}
 IsWithin Begin = ⊥
-IsWithin Recursion = Unit {0}
-IsWithin Ended = Unit {0}
-IsWithin Between = Unit {0}
-IsWithin Close = Unit {0}
 IsWithin (Call n) = ⊥
 IsWithin Return = ⊥
+IsWithin at = Unit {0}

@@ -10,8 +10,10 @@ use Rattle.ndegree_hash.specs.Resume.{resume}
 use Rattle.ndegree_hash.specs.Frames.{group_of, rest_of, waiting_of}
 use Rattle.ndegree_hash.specs.FramePlaces.{IsAt, rank}
 
--- A step from one place to another: what is left then, behind what was counted and logged, is what was left before. Below the mark the trail stays.
-pub record Leads (c : List ℕ) (t : List ℕ) (f : Frame) (at : At) (spent : Trace) (u : List ℕ) (g : Frame) (to : At) : Type 0 where
+-- A step from one place to another: what is left then, behind what was counted and logged, is what was left before.
+-- Below the mark the trail stays.
+pub record Leads (c : List ℕ) (t : List ℕ) (f : Frame) (at : At) (spent : Trace) (u : List ℕ) (g : Frame)
+    (to : At) : Type 0 where
   pub same : (ρ : Hashing) (call : CountedCall) → rest_of ρ call c t f at ≡ after spent (rest_of ρ call c u g to)
   pub stands : IsAt u g to
   pub mark : f.mark ≤ g.mark
@@ -39,6 +41,7 @@ pub record GoesOn (f g : Frame) : Type 0 where
 
 -- The call that the frame f waits for gave this hash, and the trail is t.
 pub record Resumes (c : List ℕ) (t : List ℕ) (f : Frame) (hash : Text) (g : Frame) (to : At) : Type 0 where
-  pub same : (ρ : Hashing) (call : CountedCall) → resume ρ call c (waiting_of t f) (record { text = hash; issuer = t }) ≡ rest_of ρ call c t g to
+  pub same : (ρ : Hashing) (call : CountedCall)
+      → resume ρ call c (waiting_of t f) (record { text = hash; issuer = t }) ≡ rest_of ρ call c t g to
   pub stands : IsAt t g to
   pub mark : g.mark ≡ f.mark

@@ -1,7 +1,6 @@
 -- The nodes that a frame and the trail hold are nodes of the dataset.
 use Rattle.std.specs.Prelude.{ℕ, ◌<◌, List, Option, Some, None}
-use Rattle.rdf_terms.specs.Lists.{In, AreDistinct}
-use Rattle.rdf_terms.specs.Dataset.{Dataset}
+use Rattle.rdf_terms.specs.Vocabulary.{In, AreDistinct, Dataset}
 use Rattle.canon_model.specs.CountedRun.{Chosen}
 use Rattle.ndegree_hash.specs.declared.frame.Frame.{Frame}
 use Rattle.related_hash.specs.declared.group.Group.{Group as Bag}
@@ -23,9 +22,6 @@ pub record IsKnown (D : Dataset) (c t : List ℕ) (f : Frame) : Type 0 where
   pub arrangement : (x : ℕ) → In x f.arrangement → x < D.nodes
   pub bags : (bag : Bag) → In bag f.groups → (x : ℕ) → In x bag.nodes → x < D.nodes
   pub chosen : IsSound D c (choice_of t f)
-
-pub record AllKnown (D : Dataset) (c t : List ℕ) (frames : List Frame) : Type 0 where
-  pub known : (f : Frame) → In f frames → IsKnown D c t f
 
 -- a step keeps that
 pub record Keeps (c t : List ℕ) (f : Frame) (u : List ℕ) (g : Frame) : Type 0 where

@@ -71,7 +71,8 @@ pub record LogsAll (D : Dataset) (ties : List Tie) (old new : LoggedTies) : Type
 -- ---- where a call stops before its end
 
 -- the first of these ties were logged, and none of the others
-pub record LogsFront (Logged : List Tie → LoggedTies → LoggedTies → Type 0) (ties : List Tie) (old new : LoggedTies) : Type 0 where
+pub record LogsFront (Logged : List Tie → LoggedTies → LoggedTies → Type 0) (ties : List Tie)
+    (old new : LoggedTies) : Type 0 where
   pub front : List Tie
   pub others : List Tie
   pub ties_are : ties ≡ front ++ others

@@ -1,17 +1,13 @@
 -- All open calls: the frames that wait, the one that runs, and what was counted and logged.
-use Rattle.std.specs.Prelude.{◌≡◌, ℕ, suc, ◌+◌, ◌≤◌, false, List, [], ◌∷◌, ◌++◌, map, length, Option, Some, None}
-use Rattle.rdf_terms.specs.Lists.{Text}
-use Rattle.rdf_terms.specs.Dataset.{Dataset}
+use Rattle.std.specs.Prelude.{suc, ◌≡◌, ℕ, ◌+◌, ◌≤◌, false, List, [], ◌∷◌, ◌++◌, length, Option, Some, None}
+use Rattle.rdf_terms.specs.Vocabulary.{Text, Dataset}
 use Rattle.canon_model.specs.Groups.{groups}
 use Rattle.canon_model.specs.Hashing.{Hashing}
-use Rattle.canon_model.specs.CountedRun.{Counted, CountedCall, Outcome, Trace, after}
+use Rattle.canon_model.specs.CountedRun.{Counted, Outcome}
 use Rattle.ndegree_hash.specs.declared.frame.Frame.{Frame}
 use Rattle.ndegree_hash.specs.declared.at.At.{At}
 use Rattle.related_hash.specs.Grouping.{AreGroups as AreBags}
-use Rattle.ndegree_hash.specs.Log.{LoggedTies, LogsInTurn, LogsAll}
-use Rattle.ndegree_hash.specs.Resume.{resume_all}
-use Rattle.ndegree_hash.specs.Frames.{rest_of, waiting_of}
-use Rattle.ndegree_hash.specs.FramePlaces.{IsAt}
+use Rattle.ndegree_hash.specs.Log.{LoggedTies, LogsAll}
 use Rattle.ndegree_hash.specs.KnownNodes.{IsKnown}
 use Rattle.ndegree_hash.specs.OwedTies.{owed}
 use Rattle.ndegree_hash.specs.FrameSteps.{Resumes}
@@ -23,7 +19,8 @@ first_mark (f ∷ frames) m = f.mark
 
 abbrev pub AreStacked : List Frame → ℕ → Type 0
 AreStacked [] m = Unit {0}
-AreStacked (f ∷ frames) m = (f.mark ≤ f.next) × (f.next ≤ f.last) × (f.last ≤ first_mark frames m) × (f.on_trail ≡ false) × AreStacked frames m
+AreStacked (f ∷ frames) m =
+    (f.mark ≤ f.next) × (f.next ≤ f.last) × (f.last ≤ first_mark frames m) × (f.on_trail ≡ false) × AreStacked frames m
 
 -- a call of n was opened at the trail t
 pub record IsOpened (ρ : Hashing) (D : Dataset) (c : List ℕ) (n : ℕ) (t : List ℕ) (f : Frame) : Type 0 where
@@ -34,37 +31,26 @@ pub record IsOpened (ρ : Hashing) (D : Dataset) (c : List ℕ) (n : ℕ) (t : L
   pub known : IsKnown D c t f
 
 -- the innermost of the waiting frames was taken out and given the hash
-pub record IsResumed (c t : List ℕ) (below : List Frame) (hash : Text) (rest : List Frame) (f : Frame) (to : At) : Type 0 where
+pub record IsResumed (c t : List ℕ) (below : List Frame) (hash : Text) (rest : List Frame) (f : Frame)
+    (to : At) : Type 0 where
   pub caller : Frame
   pub below_is : below ≡ rest ++ caller ∷ []
   pub resumes : Resumes c t caller hash f to
-  pub room : owed f to ≤ suc (length caller.others.items)
+  pub owes : owed f to ≤ suc (length caller.others.items)
   pub known : (D : Dataset) → IsKnown D c t caller → IsKnown D c t f
 
 abbrev pub IsLeft : List ℕ → List ℕ → List Frame → Text → List Frame → Frame → Option At → Type 0
 IsLeft c t below hash rest f None = below ≡ []
 IsLeft c t below hash rest f (Some to) = IsResumed c t below hash rest f to
 
--- the whole machine: what all open calls give in the end
-abbrev pub whole_of : Hashing → CountedCall → List ℕ → List ℕ → List Frame → Frame → At → Counted Outcome
-whole_of ρ call c t below f at = resume_all ρ call c (map (waiting_of t) below) (rest_of ρ call c t f at)
-
 -- the units that were spent, and the log
 pub record Account : Type 0 where
   pub spent : ℕ
   pub log : LoggedTies
 
--- The state of the machine in a run of the call that gives `whole`, begun at the account `before`: what was counted and logged so far, and what is left, are the whole.
-pub record IsRunning (ρ : Hashing) (D : Dataset) (call : CountedCall) (c : List ℕ) (whole : Counted Outcome) (before : Account) (t : List ℕ) (below : List Frame) (f : Frame) (at : At) (now : Account) : Type 0 where
-  pub trace : Trace
-  pub units : now.spent ≡ before.spent + trace.units
-  pub logs : LogsInTurn D trace.ties before.log now.log
-  pub same : after trace (whole_of ρ call c t below f at) ≡ whole
-  pub stands : IsAt t f at
-  pub stacked : AreStacked below f.mark
-
 -- the call gave this hash and the trail u, and this is the account now
-pub record IsFinished (D : Dataset) (whole : Counted Outcome) (before : Account) (hash : Text) (u : List ℕ) (now : Account) : Type 0 where
+pub record IsFinished (D : Dataset) (whole : Counted Outcome) (before : Account) (hash : Text) (u : List ℕ)
+    (now : Account) : Type 0 where
   pub hash_is : hash ≡ whole.value.text
   pub list_is : u ≡ whole.value.issuer
   pub units : now.spent ≡ before.spent + whole.trace.units

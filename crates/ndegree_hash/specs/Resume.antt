@@ -3,8 +3,7 @@
 use Rattle.std.specs.Prelude.{ℕ, List, [], ◌∷◌, ◌++◌, Option, None, if◌then◌else◌, codes}
 use Rattle.rdf_terms.specs.Lists.{Text}
 use Rattle.canon_model.specs.Hashing.{Hashing}
-use Rattle.canon_model.specs.Walk.{issuer_copy_after, path_of_identifiers, recursion_list}
-use Rattle.canon_model.specs.CountedRun.{Counted, CountedCall, Outcome, Chosen, logged, after, skips, is_skipped, choose, chosen_text, path_or_none, issuer_or, ties_of_chosen, counted_recursion, counted_permutations}
+use Rattle.canon_model.specs.CountedRun.{Counted, CountedCall, Outcome, Chosen, logged, after, skips, choose, chosen_text, path_or_none, issuer_or, ties_of_chosen, counted_recursion, counted_permutations}
 use Rattle.ndegree_hash.specs.Bags.{counted_bags}
 use Rattle.related_hash.specs.declared.group.Group.{Group as Bag}
 
@@ -18,7 +17,8 @@ after_groups ρ call c text bags i =
 
 -- ---- a call in a group
 
--- The data so far, with the group's related hash; the bags behind it; the issuer when it was begun; what is chosen so far; and the permutations that were not begun yet.
+-- The data so far, with the group's related hash; the bags behind it; the issuer when it was begun; what is chosen so
+-- far; and the permutations that were not begun yet.
 pub record OpenGroup : Type 0 where
   pub text : Text
   pub bags : List Bag
@@ -29,7 +29,8 @@ pub record OpenGroup : Type 0 where
 -- all permutations were tried, and this was chosen
 unfoldable pub after_choice : Hashing → CountedCall → List ℕ → OpenGroup → Option Chosen → Counted Outcome
 after_choice ρ call c g chosen =
-    after (logged (ties_of_chosen chosen c g.begun)) (after_groups ρ call c (g.text ++ path_or_none chosen) g.bags (issuer_or chosen g.begun))
+    after (logged (ties_of_chosen chosen c g.begun))
+    (after_groups ρ call c (g.text ++ path_or_none chosen) g.bags (issuer_or chosen g.begun))
 
 -- no permutation is in progress
 unfoldable pub between_permutations : Hashing → CountedCall → List ℕ → OpenGroup → Counted Outcome
@@ -38,7 +39,8 @@ between_permutations ρ call c g =
     after tried.trace (after_choice ρ call c g tried.value)
 
 abbrev pub with_choice : OpenGroup → Option Outcome → OpenGroup
-with_choice g tried = record { text = g.text; bags = g.bags; begun = g.begun; chosen = choose g.chosen tried; left = g.left }
+with_choice g tried =
+    record { text = g.text; bags = g.bags; begun = g.begun; chosen = choose g.chosen tried; left = g.left }
 
 -- the permutation in progress has come to its end, or is skipped
 abbrev pub after_permutation : Hashing → CountedCall → List ℕ → OpenGroup → Option Outcome → Counted Outcome
@@ -50,16 +52,10 @@ in_recursion ρ call c g path i nodes =
     let tried = counted_recursion call (chosen_text g.chosen) c i path nodes in
     after tried.trace (after_permutation ρ call c g tried.value)
 
--- the permutation p is begun, and those behind it are left
-unfoldable pub begin_permutation : Hashing → CountedCall → List ℕ → OpenGroup → List ℕ → List (List ℕ) → Counted Outcome
-begin_permutation ρ call c g p left =
-    let h : OpenGroup = record { text = g.text; bags = g.bags; begun = g.begun; chosen = g.chosen; left = left } in
-    if is_skipped (chosen_text g.chosen) c g.begun [] p then after_permutation ρ call c h None
-    else in_recursion ρ call c h (path_of_identifiers c g.begun p) (issuer_copy_after c g.begun p) (recursion_list c g.begun p)
-
 -- ---- a call that waits for one that it has made
 
--- the call was made behind this path, which ends in the called node's identifier and `<`, and those of `nodes` come behind it
+-- the call was made behind this path, which ends in the called node's identifier and `<`, and those of `nodes` come
+-- behind it
 pub record Waiting : Type 0 where
   pub group : OpenGroup
   pub path : Text
@@ -76,8 +72,3 @@ resume ρ call c w o =
 -- the call that is waited for, and what follows
 abbrev pub resumed : Hashing → CountedCall → List ℕ → Waiting → Counted Outcome → Counted Outcome
 resumed ρ call c w o = after o.trace (resume ρ call c w o.value)
-
--- ---- all open calls, the outermost first: what the innermost one still gives, and what all around it do with that
-unfoldable pub resume_all : Hashing → CountedCall → List ℕ → List Waiting → Counted Outcome → Counted Outcome
-resume_all ρ call c [] o = o
-resume_all ρ call c (w ∷ waiting) o = resumed ρ call c w (resume_all ρ call c waiting o)

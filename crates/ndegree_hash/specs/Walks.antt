@@ -1,7 +1,6 @@
 -- How the nodes of a permutation are written.
 use Rattle.std.specs.Prelude.{◌≡◌, ◌<◌, ℕ, Bool, false, ◌++◌, List, [], take, length, Option}
-use Rattle.rdf_terms.specs.Lists.{Text, In}
-use Rattle.rdf_terms.specs.Dataset.{Dataset}
+use Rattle.rdf_terms.specs.Vocabulary.{Text, In, Dataset}
 use Rattle.ndegree_hash.specs.KnownNodes.{IsTrail}
 use Rattle.canon_model.specs.Walk.{issuer_copy_after, path_of_identifiers}
 use Rattle.canon_model.specs.CountedRun.{is_skipped}

@@ -49,7 +49,7 @@ impl Budget {
     pub fn spend(&mut self) -> bool
         ensures limit { self.new.limit ≡ self.old.limit }
         ensures fits { self.old.limit ≤ u64.MAX }
-        ensures room { IsTrue result → self.old.spent < self.old.limit }
+        ensures one_left { IsTrue result → self.old.spent < self.old.limit }
         ensures spent { IsTrue result → self.new.spent ≡ suc self.old.spent }
         ensures none_left { (result ≡ false) ↔ (self.old.spent ≡ self.old.limit) }
         ensures unchanged { result ≡ false → self.new ≡ self.old }

@@ -5,7 +5,7 @@ ghost use Rattle.std.specs.Prelude.{◌≡◌, [], ◌∷◌, MatchOption};
 use related_hash::Group;
 use std::marker::Model;
 
-/// The groups of a call that are left, the next one last.
+// The groups of a call that are left, the next one last.
 #[derive(Drop)]
 pub(crate) struct GroupStack {
     groups: Vec<Group>,
@@ -21,8 +21,8 @@ impl Model for GroupStack {
 }
 
 impl GroupStack {
-    /// Takes groups over that stand in their order.
-    pub fn new(groups: Vec<Group>) -> Self
+    // Takes groups over that stand in their order.
+    pub(crate) fn new(groups: Vec<Group>) -> Self
         ensures { result ≡ groups.items }
     {
         let mut turned = groups;
@@ -30,8 +30,8 @@ impl GroupStack {
         GroupStack { groups: turned }
     }
 
-    /// Takes the next group out.
-    pub fn next(&mut self) -> Option<Group>
+    // Takes the next group out.
+    pub(crate) fn next(&mut self) -> Option<Group>
         ensures { MatchOption result ((self.old ≡ []) × (self.new ≡ [])) (λ g. self.old ≡ g ∷ self.new) }
     {
         self.groups.pop()

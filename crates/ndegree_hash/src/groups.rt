@@ -22,7 +22,7 @@ use id_issuer::{Issuer, Mark};
 use rdf_terms::{NoMemory, NodeList};
 use std::alloc::Global;
 
-/// Begins the next group, or ends the call.
+// Begins the next group, or ends the call.
 pub(crate) fn next_group(
     alloc: Global,
     canon: &Issuer,
@@ -32,7 +32,7 @@ pub(crate) fn next_group(
     requires { IsAt trail.now.list frame.old At.Group }
     ensures leads { IfOk result (λ at. Leads canon.now.list trail.now.list frame.old At.Group nothing trail.now.list frame.new at) }
     ensures keeps { OnOk result (Keeps canon.now.list trail.now.list frame.old trail.now.list frame.new) }
-    ensures room { IfOk result (λ at. owed frame.new at ≤ owed frame.old At.Group) }
+    ensures owes { IfOk result (λ at. owed frame.new at ≤ owed frame.old At.Group) }
 {
     let Some(group) = frame.groups.next() else {
         return Ok(At::Return);
@@ -83,8 +83,8 @@ fn log_others(
     Ok(())
 }
 
-/// Ends the group: the chosen issuer is on the trail, the chosen path in the data, and the ties of the
-/// other permutations with that path in the log.
+// Ends the group: the chosen issuer is on the trail, the chosen path in the data, and the ties of the
+// other permutations with that path in the log.
 pub(crate) fn close(
     alloc: Global,
     dataset: &Dataset,
@@ -102,7 +102,7 @@ pub(crate) fn close(
     ensures keeps { OnOk result (Keeps canon.now.list trail.old.list frame.old trail.new.list frame.new) }
     ensures prefix { trail.new.prefix ≡ trail.old.prefix }
     ensures logs { OnOk result (LogsInTurn (dataset_of dataset.now) (ties_at canon.now.list trail.old.list frame.old At.Close) ties.old ties.new) }
-    ensures room { IfOk result (λ at. ties.new.total + owed frame.new at ≤ ties.old.total + owed frame.old At.Close) }
+    ensures owes { IfOk result (λ at. ties.new.total + owed frame.new at ≤ ties.old.total + owed frame.old At.Close) }
     ensures most { ties.new.total ≤ ties.old.total + owed frame.old At.Close }
     ensures front { OnErr result (LogsFront (LogsInTurn (dataset_of dataset.now)) (ties_at canon.now.list trail.old.list frame.old At.Close) ties.old ties.new) }
 {

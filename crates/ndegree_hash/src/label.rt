@@ -7,8 +7,8 @@ use canonical_writer::push_numbered;
 use id_issuer::Issuer;
 use rdf_terms::{NoMemory, Prefix};
 
-/// Appends `_:` and the identifier of a node, the canonical one where there is one. Of a node that no
-/// issuer has issued for it appends nothing.
+// Appends `_:` and the identifier of a node, the canonical one where there is one. Of a node that no
+// issuer has issued for it appends nothing.
 pub(crate) fn push_label(
     path: &mut Vec<u8>,
     canon: &Issuer,

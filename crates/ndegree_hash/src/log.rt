@@ -97,7 +97,7 @@ impl TieLog {
         Ok(())
     }
 
-    /// The same, where of the right list what stands behind the nodes passed in is at hand.
+    // The same, where of the right list what stands behind the nodes passed in is at hand.
     pub(crate) fn log_tail(
         &mut self,
         alloc: Global,

@@ -50,7 +50,7 @@ pub fn n_degree(
     requires first { first.now ≡ map (hash_first_degree_quads (meaning profile) (dataset_of dataset.now)) (numbers_below (length dataset.now.labels)) }
     requires canonical { canon.now.prefix ≡ Prefix.Canonical }
     requires temporary { issuer.prefix ≡ Prefix.Temporary }
-    requires room { ties.old.total ≤ budget.old.spent }
+    requires few_ties { ties.old.total ≤ budget.old.spent }
     ensures result_is { IfOk result (λ r. IsCallResult (meaning profile) (dataset_of dataset.now) canon.now.list node issuer.list r.0 r.1.list) }
     ensures prefix { IfOk result (λ r. r.1.prefix ≡ issuer.prefix) }
     ensures limit { budget.new.limit ≡ budget.old.limit }
@@ -59,7 +59,7 @@ pub fn n_degree(
     ensures front { OnErr result (LogsFrontOfCall (meaning profile) (dataset_of dataset.now) canon.now.list node issuer.list ties.old ties.new) }
     ensures spent { OnOk result (Spends (meaning profile) (dataset_of dataset.now) canon.now.list node issuer.list budget.old budget.new) }
     ensures ties { OnOk result (LogsTiesOfCall (meaning profile) (dataset_of dataset.now) canon.now.list node issuer.list ties.old ties.new) }
-    ensures room { ties.new.total ≤ budget.new.spent }
+    ensures few_ties { ties.new.total ≤ budget.new.spent }
     ensures fewer { OnOk result (ties.new.total + budget.old.spent < budget.new.spent + ties.old.total) }
     ensures over { result ≡ Err Stop.WorkLimit → IsOverBudget (meaning profile) (dataset_of dataset.now) canon.now.list node issuer.list budget.old }
     ensures only { OnOk result (ties.new.total + ties.old.joined ≡ ties.old.total + ties.new.joined → IsOnlyOutcome (meaning profile) (dataset_of dataset.now) canon.now.list node issuer.list) }
@@ -72,7 +72,7 @@ pub fn n_degree(
     Ok((hash, trail))
 }
 
-// The number of nodes, which leaves room for one more in 32 bits.
+// The number of nodes, with what calls need to know of the dataset.
 fn count_nodes(dataset: &Dataset) -> u32
     ensures count { result ≡ length dataset.now.labels }
     ensures fits { length dataset.now.labels ≤ u32.MAX }
@@ -174,11 +174,11 @@ fn run(
     requires first { first.now ≡ map (hash_first_degree_quads (meaning profile) (dataset_of dataset.now)) (numbers_below (length dataset.now.labels)) }
     requires canonical { canon.now.prefix ≡ Prefix.Canonical }
     requires temporary { trail.old.prefix ≡ Prefix.Temporary }
-    requires room { ties.old.total ≤ budget.old.spent }
+    requires few_ties { ties.old.total ≤ budget.old.spent }
     requires valid { IsValid (dataset_of dataset.now) }
     requires fits { length dataset.now.labels ≤ u32.MAX }
     ensures finished { IfOk result (λ hash. IsFinished (dataset_of dataset.now) (counted_call (meaning profile) (dataset_of dataset.now) canon.now.list node trail.old.list) (record { spent = budget.old.spent; log = ties.old }) hash trail.new.list (record { spent = budget.new.spent; log = ties.new })) }
-    ensures room { ties.new.total ≤ budget.new.spent }
+    ensures few_ties { ties.new.total ≤ budget.new.spent }
     ensures fewer { OnOk result (ties.new.total + budget.old.spent < budget.new.spent + ties.old.total) }
     ensures over { result ≡ Err Stop.WorkLimit → budget.old.limit < budget.old.spent + (counted_call (meaning profile) (dataset_of dataset.now) canon.now.list node trail.old.list).trace.units }
     ensures limit { budget.new.limit ≡ budget.old.limit }

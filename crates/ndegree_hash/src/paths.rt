@@ -15,8 +15,8 @@ use std::alloc::Global;
 use std::marker::Model;
 use std::mem;
 
-/// The path at hand and the chosen one. How far they agree is kept, so that a test whether the
-/// permutation is skipped looks at what was written since the last one alone.
+// The path at hand and the chosen one. How far they agree is kept, so that a test whether the
+// permutation is skipped looks at what was written since the last one alone.
 #[derive(Drop)]
 pub(crate) struct Paths {
     path: Vec<u8>,
@@ -37,8 +37,8 @@ impl Model for Paths {
 }
 
 impl Paths {
-    /// No path, and no choice.
-    pub fn new(alloc: Global) -> Self
+    // No path, and no choice.
+    pub(crate) fn new(alloc: Global) -> Self
         ensures { result ≡ record { path = []; has_choice = false; chosen = [] } }
     {
         Paths {
@@ -49,23 +49,23 @@ impl Paths {
         }
     }
 
-    /// Nothing is chosen any more.
-    pub fn forget(&mut self)
+    // Nothing is chosen any more.
+    pub(crate) fn forget(&mut self)
         ensures { self.new ≡ record { path = self.old.path; has_choice = false; chosen = self.old.chosen } }
     {
         self.has_choice = false;
     }
 
-    /// Begins the path of a permutation.
-    pub fn begin_path(&mut self)
+    // Begins the path of a permutation.
+    pub(crate) fn begin_path(&mut self)
         ensures { self.new ≡ record { path = []; has_choice = self.old.has_choice; chosen = self.old.chosen } }
     {
         self.path.clear();
         self.agree = 0;
     }
 
-    /// Appends to the path.
-    pub fn push(&mut self, text: &[u8]) -> Result<(), NoMemory>
+    // Appends to the path.
+    pub(crate) fn push(&mut self, text: &[u8]) -> Result<(), NoMemory>
         ensures ok { OnOk result (self.new ≡ record { path = self.old.path ++ text.now; has_choice = self.old.has_choice; chosen = self.old.chosen }) }
         ensures err { OnErr result (self.new ≡ self.old) }
     {
@@ -73,8 +73,13 @@ impl Paths {
         Ok(())
     }
 
-    /// Appends the identifier of a node to the path.
-    pub fn push_label(&mut self, canon: &Issuer, trail: &Issuer, node: u32) -> Result<(), NoMemory>
+    // Appends the identifier of a node to the path.
+    pub(crate) fn push_label(
+        &mut self,
+        canon: &Issuer,
+        trail: &Issuer,
+        node: u32,
+    ) -> Result<(), NoMemory>
         requires canonical { canon.now.prefix ≡ Prefix.Canonical }
         requires temporary { trail.now.prefix ≡ Prefix.Temporary }
         ensures ok { OnOk result (self.new ≡ record { path = self.old.path ++ label canon.now.list trail.now.list node; has_choice = self.old.has_choice; chosen = self.old.chosen }) }
@@ -84,9 +89,9 @@ impl Paths {
         Ok(())
     }
 
-    /// Whether the permutation is skipped at the path at hand (RDF Dataset Canonicalization, section
-    /// 4.8, steps 5.4.4.3 and 5.4.5.5).
-    pub fn is_past(&mut self) -> bool
+    // Whether the permutation is skipped at the path at hand (RDF Dataset Canonicalization, section
+    // 4.8, steps 5.4.4.3 and 5.4.5.5).
+    pub(crate) fn is_past(&mut self) -> bool
         ensures skips { result ≡ skips (chosen_if self.old.has_choice self.old.chosen) self.old.path }
         ensures unchanged { self.new ≡ self.old }
     {
@@ -97,15 +102,15 @@ impl Paths {
         is_longer_and_past(self.path.as_slice(), self.chosen.as_slice(), self.agree)
     }
 
-    /// Whether a path is chosen.
-    pub fn has_choice(&self) -> bool
+    // Whether a path is chosen.
+    pub(crate) fn has_choice(&self) -> bool
         ensures { result ≡ self.now.has_choice }
     {
         self.has_choice
     }
 
-    /// Whether the path at hand is to be chosen, because nothing is or it is less.
-    pub fn is_better(&self) -> bool
+    // Whether the path at hand is to be chosen, because nothing is or it is less.
+    pub(crate) fn is_better(&self) -> bool
         ensures { result ≡ (if self.now.has_choice then is_before self.now.path self.now.chosen else true) }
     {
         if self.has_choice {
@@ -115,23 +120,23 @@ impl Paths {
         }
     }
 
-    /// Whether the path at hand is the chosen one.
-    pub fn is_same(&self) -> bool
+    // Whether the path at hand is the chosen one.
+    pub(crate) fn is_same(&self) -> bool
         ensures { result ≡ bytes_eq self.now.path self.now.chosen }
     {
         self.path.as_slice() == self.chosen.as_slice()
     }
 
-    /// The path at hand is chosen.
-    pub fn choose_path(&mut self)
+    // The path at hand is chosen.
+    pub(crate) fn choose_path(&mut self)
         ensures { self.new ≡ record { path = self.old.chosen; has_choice = true; chosen = self.old.path } }
     {
         mem::swap(&mut self.path, &mut self.chosen);
         self.has_choice = true;
     }
 
-    /// The chosen path.
-    pub fn chosen(&self) -> &[u8]
+    // The chosen path.
+    pub(crate) fn chosen(&self) -> &[u8]
         ensures { result.now ≡ self.now.chosen }
     {
         self.chosen.as_slice()

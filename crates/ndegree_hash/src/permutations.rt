@@ -14,7 +14,7 @@ use id_issuer::{Issuer, Mark};
 use rdf_terms::{NoMemory, NodeList, Prefix};
 use std::alloc::Global;
 
-/// Writes the permutation that stands in the frame.
+// Writes the permutation that stands in the frame.
 pub(crate) fn begin(canon: &Issuer, trail: &mut Issuer, frame: &mut Frame) -> Result<At, NoMemory>
     requires at { IsAt trail.old.list frame.old At.Begin }
     requires nodes { All (λ n. n < u32.MAX) frame.old.arrangement }
@@ -22,7 +22,7 @@ pub(crate) fn begin(canon: &Issuer, trail: &mut Issuer, frame: &mut Frame) -> Re
     requires temporary { trail.old.prefix ≡ Prefix.Temporary }
     ensures leads { IfOk result (λ at. Leads canon.now.list trail.old.list frame.old At.Begin one_unit trail.new.list frame.new at) }
     ensures keeps { OnOk result (Keeps canon.now.list trail.old.list frame.old trail.new.list frame.new) }
-    ensures room { IfOk result (λ at. owed frame.new at ≤ suc (owed frame.old At.Begin)) }
+    ensures owes { IfOk result (λ at. owed frame.new at ≤ suc (owed frame.old At.Begin)) }
     ensures prefix { trail.new.prefix ≡ trail.old.prefix }
 {
     frame.paths.begin_path();
@@ -44,7 +44,7 @@ fn behind_mark(alloc: Global, trail: &Issuer, mark: u32) -> Result<Vec<u32>, NoM
     Ok(list[mark as usize..].to_vec(alloc)?)
 }
 
-/// Compares a permutation that was tried to its end with what was chosen.
+// Compares a permutation that was tried to its end with what was chosen.
 pub(crate) fn choose(
     alloc: Global,
     canon: &Issuer,
@@ -54,7 +54,7 @@ pub(crate) fn choose(
     requires { IsAt trail.now.list frame.old At.Ended }
     ensures leads { IfOk result (λ at. Leads canon.now.list trail.now.list frame.old At.Ended nothing trail.now.list frame.new at) }
     ensures keeps { OnOk result (Keeps canon.now.list trail.now.list frame.old trail.now.list frame.new) }
-    ensures room { IfOk result (λ at. owed frame.new at ≤ owed frame.old At.Ended) }
+    ensures owes { IfOk result (λ at. owed frame.new at ≤ owed frame.old At.Ended) }
 {
     if frame.paths.is_better() {
         frame.paths.choose_path();
@@ -81,7 +81,7 @@ fn keep_aside(alloc: Global, trail: &Issuer, frame: &mut Frame) -> Result<(), No
     Ok(())
 }
 
-/// Goes on to the next permutation of the group, or to the group's end.
+// Goes on to the next permutation of the group, or to the group's end.
 pub(crate) fn next_permutation(
     alloc: Global,
     canon: &Issuer,
@@ -91,7 +91,7 @@ pub(crate) fn next_permutation(
     requires { IsAt trail.old.list frame.old At.Between }
     ensures leads { IfOk result (λ at. Leads canon.now.list trail.old.list frame.old At.Between nothing trail.new.list frame.new at) }
     ensures keeps { OnOk result (Keeps canon.now.list trail.old.list frame.old trail.new.list frame.new) }
-    ensures room { IfOk result (λ at. owed frame.new at ≤ owed frame.old At.Between) }
+    ensures owes { IfOk result (λ at. owed frame.new at ≤ owed frame.old At.Between) }
     ensures prefix { trail.new.prefix ≡ trail.old.prefix }
 {
     if !frame.arrangement.next() {

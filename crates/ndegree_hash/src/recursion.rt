@@ -14,14 +14,14 @@ use canon_model::HexHash;
 use id_issuer::Issuer;
 use rdf_terms::{NoMemory, Prefix};
 
-/// Makes the next call of the recursion list.
+// Makes the next call of the recursion list.
 pub(crate) fn next_call(canon: &Issuer, trail: &Issuer, frame: &mut Frame) -> Result<At, NoMemory>
     requires at { IsAt trail.now.list frame.old At.Recursion }
     requires canonical { canon.now.prefix ≡ Prefix.Canonical }
     requires temporary { trail.now.prefix ≡ Prefix.Temporary }
     ensures leads { IfOk result (λ at. Leads canon.now.list trail.now.list frame.old At.Recursion nothing trail.now.list frame.new at) }
     ensures keeps { OnOk result (Keeps canon.now.list trail.now.list frame.old trail.now.list frame.new) }
-    ensures room { IfOk result (λ at. owed frame.new at ≤ owed frame.old At.Recursion) }
+    ensures owes { IfOk result (λ at. owed frame.new at ≤ owed frame.old At.Recursion) }
 {
     if frame.next == frame.last {
         return Ok(At::Ended);
@@ -33,7 +33,7 @@ pub(crate) fn next_call(canon: &Issuer, trail: &Issuer, frame: &mut Frame) -> Re
     Ok(At::Call(node))
 }
 
-/// Takes the hash of the call that the frame waits for.
+// Takes the hash of the call that the frame waits for.
 pub(crate) fn resume(
     canon: &Issuer,
     trail: &Issuer,
@@ -43,7 +43,7 @@ pub(crate) fn resume(
     requires { IsInRecursion trail.now.list frame.old }
     ensures resumes { IfOk result (λ at. Resumes canon.now.list trail.now.list frame.old hash.now frame.new at) }
     ensures known { OnOk result ((D : AbstractDataset) → IsKnown D canon.now.list trail.now.list frame.old → IsKnown D canon.now.list trail.now.list frame.new) }
-    ensures room { IfOk result (λ at. owed frame.new at ≤ owed frame.old At.Recursion) }
+    ensures owes { IfOk result (λ at. owed frame.new at ≤ owed frame.old At.Recursion) }
 {
     frame.paths.push(hash.as_bytes())?;
     frame.paths.push(b">")?;

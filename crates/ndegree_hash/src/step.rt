@@ -20,7 +20,7 @@ use id_issuer::Issuer;
 use rdf_terms::{NoMemory, Prefix};
 use std::alloc::Global;
 
-/// One step of the running frame that spends no unit.
+// One step of the running frame that spends no unit.
 pub(crate) fn step(
     alloc: Global,
     dataset: &Dataset,
@@ -42,7 +42,7 @@ pub(crate) fn step(
     ensures keeps { OnOk result (Keeps canon.now.list trail.old.list frame.old trail.new.list frame.new) }
     ensures prefix { trail.new.prefix ≡ trail.old.prefix }
     ensures logs { OnOk result (LogsInTurn (dataset_of dataset.now) (ties_at canon.now.list trail.old.list frame.old at) ties.old ties.new) }
-    ensures room { IfOk result (λ to. ties.new.total + owed frame.new to ≤ ties.old.total + owed frame.old at) }
+    ensures owes { IfOk result (λ to. ties.new.total + owed frame.new to ≤ ties.old.total + owed frame.old at) }
     ensures most { ties.new.total ≤ ties.old.total + owed frame.old at }
     ensures front { OnErr result (LogsFront (LogsInTurn (dataset_of dataset.now)) (ties_at canon.now.list trail.old.list frame.old at) ties.old ties.new) }
 {

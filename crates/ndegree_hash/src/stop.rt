@@ -1,6 +1,8 @@
 //! Why a run stopped.
 
 use rdf_terms::NoMemory;
+use std::error::Error;
+use std::fmt;
 
 /// Why a run stopped.
 #[derive(Clone, Copy, Debug, PartialEq, Eq)]
@@ -20,3 +22,14 @@ impl From<NoMemory> for Stop {
         Stop::NoMemory
     }
 }
+
+impl fmt::Display for Stop {
+    fn fmt<W: fmt::Write>(&self, f: &mut fmt::Formatter<W>) -> fmt::Result {
+        match self {
+            Stop::WorkLimit => f.write_str("more units of work than the limit"),
+            Stop::NoMemory => f.write_str("out of memory"),
+        }
+    }
+}
+
+impl Error for Stop {}

@@ -24,7 +24,7 @@ fn issue_for(canon: &Issuer, trail: &mut Issuer, node: u32) -> Result<(), NoMemo
     }
 }
 
-/// Writes the nodes of a permutation in turn, and answers whether it is skipped on the way.
+// Writes the nodes of a permutation in turn, and answers whether it is skipped on the way.
 pub(crate) fn walk(
     canon: &Issuer,
     trail: &mut Issuer,

@@ -1,5 +1,5 @@
-pub mod Labels
 mod Inputs
 pub mod QuadEntries
 mod NodesOnce
 mod SortedGroups
+pub mod SoFar

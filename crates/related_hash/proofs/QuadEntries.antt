@@ -5,14 +5,10 @@ use Rattle.std.specs.Option.{option_map}
 use Rattle.std.proofs.lemmas.Bool.{ne_eqb}
 use Rattle.std.proofs.lemmas.List.{get_or-map, length-map, map-append}
 use Rattle.std.proofs.lemmas.Option.{slice_get-get_or, slice_get-map}
-use Rattle.rdf_terms.specs.Lists.{Text, numbers_below}
-use Rattle.rdf_terms.specs.Dataset.{mentions}
-use Rattle.rdf_terms.specs.Document.{Document, dataset, graph_name_at, statement, statements, term_at}
-use Rattle.rdf_terms.specs.Terms.{Statement}
+use Rattle.rdf_terms.proofs.Common.{Text, numbers_below, mentions, Document, dataset, graph_name_at, statement, statements, term_at, Statement, get_or-numbers_below, length-numbers_below}
 use Rattle.rdf_terms.specs.declared.term.Quad.{Quad}
 use Rattle.rdf_terms.specs.declared.term.Term.{Term}
 use Rattle.rdf_terms.specs.declared.term.Term.TheVariants.{Blank}
-use Rattle.rdf_terms.proofs.Ranks.{get_or-numbers_below, length-numbers_below}
 use Rattle.dataset_index.specs.Mentions.{places_of}
 use Rattle.dataset_index.proofs.QuadPlaces.{map_at_places}
 use Rattle.canon_model.specs.declared.position.Position.{Position}
@@ -36,7 +32,8 @@ first-at f n first k d e h =
 
 -- ---- one entry
 
-pub entry-added : (ρ : Hashing) (d : Document) (c i : List ℕ) (n : ℕ) (predicate : Text) (position : Position) (term : Term) (m : ℕ) (hash first : Text) (old new : List Entry) → term ≡ Blank m → ¬ (m ≡ n)
+pub entry-added : (ρ : Hashing) (d : Document) (c i : List ℕ) (n : ℕ) (predicate : Text) (position : Position) (term : Term) (m : ℕ) (hash first : Text) (old new : List Entry) → term ≡ Blank m
+    → ¬ (m ≡ n)
     → new ≡ old ++ record { hash = hash; node = m } ∷ [] → hash ≡ ρ.hash (related_input first c i m predicate position) → first ≡ hash_first_degree_quads ρ (dataset d) m
     → map related_entry new ≡ map related_entry old ++ entry_of_term ρ (dataset d) c i n predicate position term
 unfolding hash_related_blank_node
@@ -49,7 +46,8 @@ entry-added ρ d c i n predicate position term m hash first old new is other add
 
 -- ---- the entries of one quad
 
-pub entries-quad : (ρ : Hashing) (d : Document) (c i : List ℕ) (n place : ℕ) (q : Quad) → slice_get d.quads place ≡ Some q → entries_at ρ d c i n place ≡ entries_of_statement ρ (dataset d) c i n (statement d.terms q)
+pub entries-quad : (ρ : Hashing) (d : Document) (c i : List ℕ) (n place : ℕ) (q : Quad) → slice_get d.quads place ≡ Some q
+    → entries_at ρ d c i n place ≡ entries_of_statement ρ (dataset d) c i n (statement d.terms q)
 entries-quad ρ d c i n place q e = ap (entries_of ρ d c i n) (slice_get-map (statement d.terms) d.quads place ∙ ap (option_map (statement d.terms)) e)
 
 -- ---- the entries of all quads
@@ -58,15 +56,18 @@ flat_map-map : {X A : Type 0} (f : X → List A) (xs : List X) → flat_map (λ 
 flat_map-map f [] = refl
 flat_map-map f (x ∷ xs) = ap (λ l. f x ++ l) (flat_map-map f xs)
 
-pub entries_at_places : (ρ : Hashing) (d : Document) (c i : List ℕ) (n : ℕ) (places : List ℕ) → places ≡ places_of (statements d) n → flat_map (entries_at ρ d c i n) places ≡ related_entries ρ (dataset d) c i n
+pub entries_at_places : (ρ : Hashing) (d : Document) (c i : List ℕ) (n : ℕ) (places : List ℕ) → places ≡ places_of (statements d) n
+    → flat_map (entries_at ρ d c i n) places ≡ related_entries ρ (dataset d) c i n
 unfolding related_entries
 entries_at_places ρ d c i n places e =
     let of : Statement → List RelatedEntry = entries_of_statement ρ (dataset d) c i n in
-    ap (flat_map (entries_at ρ d c i n)) e ∙ sym (flat_map-map (entries_at ρ d c i n) (places_of (statements d) n)) ∙ ap (flat_map (λ (l : List RelatedEntry). l)) (map_at_places (entries_of ρ d c i n) d n) ∙ flat_map-map of (filter (mentions n) (statements d))
+    ap (flat_map (entries_at ρ d c i n)) e ∙ sym (flat_map-map (entries_at ρ d c i n) (places_of (statements d) n))
+    ∙ ap (flat_map (λ (l : List RelatedEntry). l)) (map_at_places (entries_of ρ d c i n) d n) ∙ flat_map-map of (filter (mentions n) (statements d))
 
 -- ---- the terms of a quad, one after the other
 
-pub quad-added : (ρ : Hashing) (d : Document) (c i : List ℕ) (n place : ℕ) (q : Quad) (predicate : Text) (subject object : Term) (graph_name : Option Term) (old first second third : List RelatedEntry) → slice_get d.quads place ≡ Some q
+pub quad-added : (ρ : Hashing) (d : Document) (c i : List ℕ) (n place : ℕ) (q : Quad) (predicate : Text) (subject object : Term) (graph_name : Option Term) (old first second third : List RelatedEntry)
+    → slice_get d.quads place ≡ Some q
     → predicate ≡ iri_text (term_at d.terms q.p) → subject ≡ term_at d.terms q.s → object ≡ term_at d.terms q.o → graph_name ≡ graph_name_at d.terms q.g
     → first ≡ old ++ entry_of_term ρ (dataset d) c i n predicate Subject subject → second ≡ first ++ entry_of_term ρ (dataset d) c i n predicate Object object
     → third ≡ second ++ entry_of_graph_name ρ (dataset d) c i n predicate graph_name → third ≡ old ++ entries_at ρ d c i n place
@@ -74,8 +75,10 @@ quad-added ρ d c i n place q predicate subject object graph_name old first seco
     let all : Text → Term → Term → Option Term → List RelatedEntry =
     λ π x y z. entry_of_term ρ (dataset d) c i n π Subject x ++ (entry_of_term ρ (dataset d) c i n π Object y ++ entry_of_graph_name ρ (dataset d) c i n π z) in
     e ∙ ap (λ l. l ++ entry_of_graph_name ρ (dataset d) c i n predicate graph_name) (b ∙ ap (λ l. l ++ entry_of_term ρ (dataset d) c i n predicate Object object) a)
-    ∙ append_assoc (old ++ entry_of_term ρ (dataset d) c i n predicate Subject subject) (entry_of_term ρ (dataset d) c i n predicate Object object) (entry_of_graph_name ρ (dataset d) c i n predicate graph_name)
-    ∙ append_assoc old (entry_of_term ρ (dataset d) c i n predicate Subject subject) (entry_of_term ρ (dataset d) c i n predicate Object object ++ entry_of_graph_name ρ (dataset d) c i n predicate graph_name)
+    ∙ append_assoc (old ++ entry_of_term ρ (dataset d) c i n predicate Subject subject) (entry_of_term ρ (dataset d) c i n predicate Object object)
+    (entry_of_graph_name ρ (dataset d) c i n predicate graph_name)
+    ∙ append_assoc old (entry_of_term ρ (dataset d) c i n predicate Subject subject)
+    (entry_of_term ρ (dataset d) c i n predicate Object object ++ entry_of_graph_name ρ (dataset d) c i n predicate graph_name)
     ∙ ap (λ π. old ++ all π subject object graph_name) p ∙ ap (λ x. old ++ all (iri_text (term_at d.terms q.p)) x object graph_name) s
     ∙ ap (λ y. old ++ all (iri_text (term_at d.terms q.p)) (term_at d.terms q.s) y graph_name) o ∙ ap (λ z. old ++ all (iri_text (term_at d.terms q.p)) (term_at d.terms q.s) (term_at d.terms q.o) z) g
     ∙ ap (λ l. old ++ l) (sym (entries-quad ρ d c i n place q at))

@@ -1,8 +1,6 @@
 -- The entries of a call, by the places of the quads that they come from.
 use Rattle.std.specs.Prelude.{ℕ, List, [], Option, Some, None, slice_get}
-use Rattle.rdf_terms.specs.Lists.{Text}
-use Rattle.rdf_terms.specs.Document.{Document, dataset, statements}
-use Rattle.rdf_terms.specs.Terms.{Statement}
+use Rattle.rdf_terms.specs.Vocabulary.{Text, Document, dataset, statements, Statement}
 use Rattle.canon_model.specs.Hashing.{Hashing}
 use Rattle.canon_model.specs.Groups.{RelatedEntry, entries_of_statement}
 use Rattle.related_hash.specs.declared.entry.Entry.{Entry}

@@ -1,12 +1,10 @@
 -- How entries in the order of their hashes make groups.
-use Rattle.std.specs.Prelude.{◌≡◌, if◌then◌else◌, List, [], ◌∷◌, ◌++◌, map}
+use Rattle.std.specs.Prelude.{◌≡◌, if◌then◌else◌, List, [], ◌∷◌, ◌++◌}
 use Rattle.std.specs.Str.{bytes_eq}
 use Rattle.rdf_terms.specs.Lists.{Permutes}
 use Rattle.canon_model.specs.Hashing.{Hashing}
 use Rattle.canon_model.specs.Groups.{RelatedEntry, as_read}
-use Rattle.related_hash.specs.declared.entry.Entry.{Entry}
 use Rattle.related_hash.specs.declared.group.Group.{Group}
-use Rattle.related_hash.specs.Entries.{related_entry}
 use Rattle.related_hash.specs.Grouping.{Ascends}
 
 -- ---- gathering, from the last entry on
@@ -22,12 +20,6 @@ abbrev pub groups_of : List RelatedEntry → List Group
 groups_of [] = []
 groups_of (e ∷ entries) = with_entry e (groups_of entries)
 
--- some entries are left, and the groups hold those behind them
-pub record HoldRest (entries left : List Entry) (groups : List Group) : Type 0 where
-  pub done : List Entry
-  pub parts : entries ≡ left ++ done
-  pub held : groups ≡ groups_of (map related_entry done)
-
 -- ---- the nodes of each group, as they are read
 
 pub record IsArranged (ρ : Hashing) (open_group group : Group) : Type 0 where
@@ -37,12 +29,6 @@ pub record IsArranged (ρ : Hashing) (open_group group : Group) : Type 0 where
 
 abbrev pub AllArranged : Hashing → List Group → List Group → Type 0
 AllArranged ρ [] [] = Unit {0}
-AllArranged ρ [] (group ∷ groups) = ⊥
-AllArranged ρ (open_group ∷ open_groups) [] = ⊥
-AllArranged ρ (open_group ∷ open_groups) (group ∷ groups) = IsArranged ρ open_group group × AllArranged ρ open_groups groups
-
--- some groups are left, and those before them are arranged
-pub record AreArrangedBefore (ρ : Hashing) (groups left arranged : List Group) : Type 0 where
-  pub before : List Group
-  pub parts : groups ≡ before ++ left
-  pub arranged_are : AllArranged ρ before arranged
+AllArranged ρ (open_group ∷ open_groups) (group ∷ groups) =
+    IsArranged ρ open_group group × AllArranged ρ open_groups groups
+AllArranged ρ open_groups groups = ⊥

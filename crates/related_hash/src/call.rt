@@ -11,7 +11,7 @@ use canon_model::{HexHash, Profile};
 use dataset_index::Dataset;
 use id_issuer::Issuer;
 
-/// The dataset with the first-degree hashes of its nodes, the two issuers and the node of a call.
+// The dataset with the first-degree hashes of its nodes, the two issuers and the node of a call.
 #[derive(Clone, Copy)]
 pub(crate) struct Call<'a> {
     pub dataset: &'a Dataset,

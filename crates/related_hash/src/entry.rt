@@ -2,7 +2,7 @@
 
 use canon_model::HexHash;
 
-/// A node that is met, under its related hash.
+// A node that is met, under its related hash.
 #[derive(Debug, Drop)]
 pub(crate) struct Entry {
     pub hash: HexHash,

@@ -12,8 +12,11 @@ use itoa::Buffer;
 use profile_hash::hash_of_pieces;
 use rdf_terms::Prefix;
 
-// The letter of the position, the predicate where it counts, and what stands behind it.
-fn front(predicate: &str, position: Position) -> (&'static [u8], &[u8], &'static [u8])
+// The letter of the position, the predicate where it counts, and what stands behind it (steps 1 and 2).
+fn position_and_predicate(
+    predicate: &str,
+    position: Position,
+) -> (&'static [u8], &[u8], &'static [u8])
     ensures { result.0.now ++ (result.1.now ++ result.2.now) ≡ position_letter position ++ predicate_part position predicate.now }
 {
     match position {
@@ -23,7 +26,7 @@ fn front(predicate: &str, position: Position) -> (&'static [u8], &[u8], &'static
     }
 }
 
-// `_:`, and the prefix and number of the identifier that a node has: the canonical one where there is one.
+// `_:`, and the prefix and number of the identifier that a node has: the canonical one where there is one (step 3).
 fn identifier(canon: &Issuer, issuer: &Issuer, node: u32) -> Option<(&'static [u8], u32)>
     requires canonical { canon.now.prefix ≡ Prefix.Canonical }
     requires temporary { issuer.now.prefix ≡ Prefix.Temporary }
@@ -67,7 +70,7 @@ pub fn related(
     requires temporary { issuer.now.prefix ≡ Prefix.Temporary }
     ensures { result ≡ (meaning profile).hash (related_input first.now canon.now.list issuer.now.list node predicate.now position) }
 {
-    let (letter, name, close) = front(predicate, position);
+    let (letter, name, close) = position_and_predicate(predicate, position);
     match identifier(canon, issuer, node) {
         Some((prefix, place)) => {
             let mut buffer = Buffer::new();

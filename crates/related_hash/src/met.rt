@@ -92,8 +92,8 @@ fn add_quad(call: &Call<'_>, place: u32, entries: &mut Vec<Entry>) -> Result<(),
     Ok(())
 }
 
-/// An entry for each time that a quad of the call's node mentions another node (RDF Dataset
-/// Canonicalization, section 4.8, step 3).
+// An entry for each time that a quad of the call's node mentions another node (RDF Dataset
+// Canonicalization, section 4.8, step 3).
 pub(crate) fn entries_of(alloc: Global, call: &Call<'_>) -> Result<Vec<Entry>, NoMemory>
     ensures { IfOk result (λ entries. map related_entry entries.items ≡ related_entries (meaning call.now.profile) (dataset_of call.now.dataset.now) call.now.canon.now.list call.now.issuer.now.list call.now.node) }
 {

@@ -20,7 +20,7 @@ fn leave_once(nodes: &mut Vec<u32>, profile: Profile)
     }
 }
 
-/// The nodes ascending: each as often as it was met, or once, as the profile says.
+// The nodes ascending: each as often as it was met, or once, as the profile says.
 pub(crate) fn as_profile_reads(nodes: Vec<u32>, profile: Profile) -> NodeList
     ensures permutes { Permutes (as_read (meaning profile) nodes.items) result }
     ensures ascending { Ascends result }

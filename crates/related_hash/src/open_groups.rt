@@ -10,7 +10,7 @@ use rdf_terms::NoMemory;
 use std::alloc::Global;
 use std::marker::Model;
 
-/// A related hash, and the nodes that were gathered under it, in any order.
+// A related hash, and the nodes that were gathered under it, in any order.
 #[derive(Drop)]
 pub(crate) struct OpenGroup {
     pub hash: HexHash,
@@ -25,7 +25,7 @@ impl Model for OpenGroup {
     ghost view = { λ g. record { hash = g.hash; nodes = g.nodes.items } };
 }
 
-/// Groups in a row, the first of them last in the vector.
+// Groups in a row, the first of them last in the vector.
 #[derive(Drop)]
 pub(crate) struct OpenGroups {
     groups: Vec<OpenGroup>,
@@ -41,7 +41,7 @@ impl Model for OpenGroups {
 }
 
 impl OpenGroups {
-    pub fn new(alloc: Global) -> Self
+    pub(crate) fn new(alloc: Global) -> Self
         ensures { result ≡ [] }
     {
         OpenGroups {
@@ -49,9 +49,9 @@ impl OpenGroups {
         }
     }
 
-    /// Puts an entry in front: into the first group where that has its hash, else into a group of
-    /// its own.
-    pub fn add(&mut self, alloc: Global, entry: Entry) -> Result<(), NoMemory>
+    // Puts an entry in front: into the first group where that has its hash, else into a group of
+    // its own.
+    pub(crate) fn add(&mut self, alloc: Global, entry: Entry) -> Result<(), NoMemory>
         ensures { OnOk result (self.new ≡ with_entry (related_entry entry) self.old) }
     {
         if let Some(mut group) = self.groups.pop() {
@@ -71,14 +71,14 @@ impl OpenGroups {
         Ok(())
     }
 
-    pub fn len(&self) -> usize
+    pub(crate) fn len(&self) -> usize
         ensures { result ≡ length self.now }
     {
         self.groups.len()
     }
 
-    /// Takes the first group out.
-    pub fn next(&mut self) -> Option<OpenGroup>
+    // Takes the first group out.
+    pub(crate) fn next(&mut self) -> Option<OpenGroup>
         ensures { MatchOption result ((self.old ≡ []) × (self.new ≡ [])) (λ g. self.old ≡ g ∷ self.new) }
     {
         self.groups.pop()

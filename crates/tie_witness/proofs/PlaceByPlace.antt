@@ -1,24 +1,20 @@
 -- The pairs at one place of two lists are those of the nodes that the exchange of the lists moves.
-use Rattle.std.proofs.Common.{◌≡◌, ◌⊎◌, ◌↔◌, ◌||◌, ℕ, zero, suc, ◌+◌, ◌<◌, ◌≤◌, Bool, true, false, not, cond, eqb, eqb-true, eq-eqb, ne_eqb, List, [], ◌∷◌, ◌++◌, append-nil, append_assoc, map, take, length, get_or, Some, inl, inr, refl, sym, ap, ◌∙◌, subst, true≢false, arith}
+use Rattle.std.proofs.Common.{min, ◌≡◌, ◌⊎◌, ◌↔◌, ◌||◌, ℕ, suc, ◌+◌, ◌<◌, ◌≤◌, Bool, true, false, not, cond, eqb, eqb-true, eq-eqb, ne_eqb, List, [], ◌∷◌, ◌++◌, append-nil, append_assoc, map, take, length, get_or, Some, inl, inr, refl, sym, ap, ◌∙◌, subst, true≢false, arith}
 use Rattle.std.specs.List.{list_any}
 use Rattle.std.specs.List.Sorted.{IsPermutation, IsSortedByKey}
 use Rattle.std.specs.Ordering.{nat_cmp, is_lt}
 use Rattle.std.proofs.lemmas.Bool.Decides.{nat_tests}
-use Rattle.std.proofs.lemmas.List.{take_more, map-append}
-use Rattle.rdf_terms.proofs.Membership.{In-append, In-append_left, In-append_right, from_In-map}
-use Rattle.rdf_terms.proofs.Permutations.{AreDistinct-Permutes, In-Permutes, Permutes-from_IsPermutation, Permutes-map, Permutes-sym}
-use Rattle.rdf_terms.specs.CanonicalForm.{after_first, place_of}
-use Rattle.rdf_terms.specs.Lists.{AreDistinct, In, Permutes}
+use Rattle.std.proofs.lemmas.List.{length-take, map-append, take_more}
+use Rattle.rdf_terms.proofs.Common.{In-append, In-append_left, In-append_right, from_In-map, AreDistinct-Permutes, In-Permutes, Permutes-from_IsPermutation, Permutes-map, Permutes-sym, after_first, place_of, AreDistinct, In, Permutes, AreDistinct-append}
 use Rattle.canon_model.specs.Issuer.{is_issued}
 use Rattle.canon_model.specs.Ties.{exchange, node_at}
 use Rattle.canon_model.proofs.Exchange.{node_at-next}
-use Rattle.canon_model.proofs.ExchangeSymmetry.{by_places}
+use Rattle.canon_model.proofs.ExchangeSymmetry.{by_places, exchange-behind, exchange-outside}
 use Rattle.canon_model.proofs.Issuers.{AreOnce, In-from_is_issued, are_once_from_distinct, is_issued-from_not_In, not_In-from_is_issued}
 use Rattle.tie_witness.specs.Moving.{AreMovedBy, moved_at, moved_by_place}
 use Rattle.tie_witness.specs.Tails.{AreTails, IsSameUnless, TellsExchange}
 use Rattle.tie_witness.specs.Witness.{AscendByFirst}
-use Rattle.tie_witness.proofs.Exchanging.{exchange-behind, exchange-inside, exchange-outside}
-use Rattle.rdf_terms.proofs.MadeLists.{AreDistinct-append}
+use Rattle.tie_witness.proofs.Exchanging.{exchange-inside}
 
 abbrev pub firsts : List (ℕ × ℕ) → List ℕ
 firsts pairs = map (λ (p : ℕ × ℕ). p.0) pairs
@@ -31,21 +27,16 @@ moved_by_place-append [] (y ∷ m) k n e = cc
 moved_by_place-append (x ∷ l) [] k n e = cc
 moved_by_place-append (x ∷ l) (y ∷ m) k n e = ap (λ r. moved_at x y ++ r) (moved_by_place-append l m k n (cc)) ∙ sym (append_assoc (moved_at x y) (moved_by_place l m) (moved_by_place k n))
 
-length_take : (k : ℕ) (l m : List ℕ) → length l ≡ length m → length (take k l) ≡ length (take k m)
-length_take zero l m e = refl
-length_take (suc k) [] [] e = refl
-length_take (suc k) [] (y ∷ m) e = cc
-length_take (suc k) (x ∷ l) [] e = cc
-length_take (suc k) (x ∷ l) (y ∷ m) e = ap suc (length_take k l m (cc))
-
-moved-more : (l m : List ℕ) (k : ℕ) → k < length l → length l ≡ length m → moved_by_place (take (k + 1) l) (take (k + 1) m) ≡ moved_by_place (take k l) (take k m) ++ moved_at (get_or l k 0) (get_or m k 0)
+moved-more : (l m : List ℕ) (k : ℕ) → k < length l → length l ≡ length m
+    → moved_by_place (take (k + 1) l) (take (k + 1) m) ≡ moved_by_place (take k l) (take k m) ++ moved_at (get_or l k 0) (get_or m k 0)
 moved-more l m k h e =
     let g : k < length m = omega arith in
     ap (λ w. moved_by_place w (take (k + 1) m)) (take_more l k 0 h) ∙ ap (λ w. moved_by_place (take k l ++ get_or l k 0 ∷ []) w) (take_more m k 0 g)
-    ∙ moved_by_place-append (take k l) (take k m) (get_or l k 0 ∷ []) (get_or m k 0 ∷ []) (length_take k l m e)
+    ∙ moved_by_place-append (take k l) (take k m) (get_or l k 0 ∷ []) (get_or m k 0 ∷ []) (length-take k l ∙ ap (min k) e ∙ sym (length-take k m))
     ∙ ap (λ w. moved_by_place (take k l) (take k m) ++ w) (append-nil (moved_at (get_or l k 0) (get_or m k 0)))
 
-pub pushed : (l m : List ℕ) (k : ℕ) (first old new : List (ℕ × ℕ)) → k < length l → length l ≡ length m → old ≡ first ++ moved_by_place (take k l) (take k m) → new ≡ old ++ (get_or l k 0, get_or m k 0) ∷ [] → ¬ (get_or l k 0 ≡ get_or m k 0)
+pub pushed : (l m : List ℕ) (k : ℕ) (first old new : List (ℕ × ℕ)) → k < length l → length l ≡ length m → old ≡ first ++ moved_by_place (take k l) (take k m)
+    → new ≡ old ++ (get_or l k 0, get_or m k 0) ∷ [] → ¬ (get_or l k 0 ≡ get_or m k 0)
     → new ≡ first ++ moved_by_place (take (k + 1) l) (take (k + 1) m)
 pushed l m k first old new h e was is other =
     is ∙ ap (λ w. w ++ (get_or l k 0, get_or m k 0) ∷ []) was ∙ append_assoc first (moved_by_place (take k l) (take k m)) ((get_or l k 0, get_or m k 0) ∷ [])
@@ -111,7 +102,8 @@ In-moved [] m e x y h p n = absurd (true≢false (sym h))
 In-moved (z ∷ l) [] e x y h p n = cc
 In-moved (z ∷ l) (w ∷ m) e x y h p n = by (eqb z x) refl h (In-moved l m (cc) x y)
   where
-    by : (t : Bool) → eqb z x ≡ t → (t || is_issued x l) ≡ true → (is_issued x l ≡ true → by_places l m x ≡ y → ¬ (x ≡ y) → In (x, y) (moved_by_place l m)) → In (x, y) (moved_at z w ++ moved_by_place l m)
+    by : (t : Bool) → eqb z x ≡ t → (t || is_issued x l) ≡ true → (is_issued x l ≡ true → by_places l m x ≡ y → ¬ (x ≡ y) → In (x, y) (moved_by_place l m))
+        → In (x, y) (moved_at z w ++ moved_by_place l m)
     by true q r ih =
         let zx : z ≡ x = eqb-true z x q in
         let wy : w ≡ y = sym (places-first z w x l m q) ∙ p in
@@ -121,7 +113,8 @@ In-moved (z ∷ l) (w ∷ m) e x y h p n = by (eqb z x) refl h (In-moved l m (cc
 -- ---- no node begins two pairs
 
 firsts-inside : (l m : List ℕ) → AreOnce l → length l ≡ length m → (x : ℕ) → In x (firsts (moved_by_place l m)) → is_issued x l ≡ true
-firsts-inside l m d e x h = let r = from_In-map (λ (p : ℕ × ℕ). p.0) (moved_by_place l m) x h in (from_In-moved l m d e x r.0.1 (subst (λ (z : ℕ). In (z, r.0.1) (moved_by_place l m)) (sym r.2) r.1)).inside
+firsts-inside l m d e x h =
+    let r = from_In-map (λ (p : ℕ × ℕ). p.0) (moved_by_place l m) x h in (from_In-moved l m d e x r.0.1 (subst (λ (z : ℕ). In (z, r.0.1) (moved_by_place l m)) (sym r.2) r.1)).inside
 
 firsts-once : (l m : List ℕ) → AreOnce l → length l ≡ length m → AreDistinct (firsts (moved_by_place l m))
 firsts-once [] m d e = tt
@@ -164,7 +157,11 @@ module _ (a b : List ℕ) (tails : AreTails a b) where
 
   pub told-apart : IsSameUnless true a b → (pairs : List (ℕ × ℕ)) → pairs ≡ moved_by_place a b ++ moved_by_place b a → TellsExchange a b pairs
   told-apart apart pairs e = subst (TellsExchange a b) (sym e) (record {
-    moved = λ x y. (λ h. elim (In-append (moved_by_place a b) (moved_by_place b a) (x, y) h) [ inl q ↦ on_left x y q | inr q ↦ on_right x y q ], λ p. by x y (is_issued x a) refl (is_issued x b) refl p.0 p.1);
+    moved = λ x y. (
+      λ h. elim (In-append (moved_by_place a b) (moved_by_place b a) (x, y) h) [ inl q ↦ on_left x y q | inr q ↦ on_right x y q ],
+      λ p. by x y (is_issued x a) refl
+          (is_issued x b) refl p.0 p.1,
+    );
     once = subst AreDistinct (sym (map-append (λ (p : ℕ × ℕ). p.0) (moved_by_place a b) (moved_by_place b a)))
         (AreDistinct-append (firsts (moved_by_place a b)) (firsts (moved_by_place b a)) (firsts-once a b left_once tails.as_long) (firsts-once b a right_once (sym tails.as_long))
         (λ x h g. apart x (In-from_is_issued x a (firsts-inside a b left_once tails.as_long x h)) (In-from_is_issued x b (firsts-inside b a right_once (sym tails.as_long) x g))));

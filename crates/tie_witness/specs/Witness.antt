@@ -1,7 +1,6 @@
 -- The check of an exchange: whether the exchange of two tied lists is a symmetry of the dataset.
 use Rattle.std.specs.Prelude.{◌≡◌, ◌↔◌, ℕ, ◌<◌, ◌≤◌, List, [], ◌∷◌, ◌++◌, take, length, Option, MatchOption}
-use Rattle.rdf_terms.specs.Lists.{In}
-use Rattle.rdf_terms.specs.Dataset.{Dataset}
+use Rattle.rdf_terms.specs.Vocabulary.{In, Dataset}
 use Rattle.rdf_terms.specs.declared.pair_list.Bijection.{Bijection}
 use Rattle.canon_model.specs.Ties.{exchange, IsJoined, MayBeExchanged}
 

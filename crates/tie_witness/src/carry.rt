@@ -84,7 +84,7 @@ fn carries_quads_of(dataset: &Dataset, pairs: &[(u32, u32)], node: u32) -> bool
     true
 }
 
-/// Whether the pairs carry each quad that mentions a node that they move to one that is there.
+// Whether the pairs carry each quad that mentions a node that they move to one that is there.
 pub(crate) fn carries_moved(dataset: &Dataset, pairs: &[(u32, u32)]) -> bool
     requires ascend { AscendByFirst pairs.now }
     requires nodes { LeadToNodes (length dataset.now.labels) pairs.now }

@@ -48,7 +48,7 @@ fn exchanged_pairs(alloc: Global, left: &[u32], right: &[u32]) -> Result<Vec<(u3
     Ok(pairs)
 }
 
-/// The pairs of the nodes that the exchange of the lists moves, ascending by the first.
+// The pairs of the nodes that the exchange of the lists moves, ascending by the first.
 pub(crate) fn moved_pairs(
     alloc: Global,
     left: &[u32],

@@ -24,6 +24,7 @@ returns-in_default-clause-keeps c = record {
 
 pub returns-clause-keeps : goal.returns-clause-keeps
 returns-clause-keeps c = record {
-  known = λ D k t. known-group D c.args.canon.now.list c.args.trail.now.list c.args.frame.now _ c.in-Some.group c.in-Some.ensures (subst (λ bag. IsFirst bag c.in_ok-frame.field-0) c.as_slice.ensures c.in_ok-frame.ensures) (ap (λ (p : PathChoice). p.has_choice) c.forget.ensures) k;
+  known = λ D k t. known-group D c.args.canon.now.list c.args.trail.now.list c.args.frame.now _ c.in-Some.group c.in-Some.ensures
+      (subst (λ bag. IsFirst bag c.in_ok-frame.field-0) c.as_slice.ensures c.in_ok-frame.ensures) (ap (λ (p : PathChoice). p.has_choice) c.forget.ensures) k;
   trail = λ D k t. t;
 }

@@ -1,7 +1,5 @@
 use Rattle.std.proofs.Common.{List, ap, subst, sym}
-use Rattle.rdf_terms.proofs.Permutations.{In-Permutes, Permutes-sym}
-use Rattle.rdf_terms.specs.Document.{dataset as dataset_of}
-use Rattle.rdf_terms.specs.Lists.{In}
+use Rattle.rdf_terms.proofs.Common.{In-Permutes, Permutes-sym, dataset as dataset_of, In}
 use Rattle.canon_model.specs.Groups.{groups}
 use Rattle.canon_model.specs.Meaning.{meaning}
 use Rattle.related_hash.specs.Grouping.{AreGroups}

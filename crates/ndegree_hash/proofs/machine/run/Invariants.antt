@@ -2,19 +2,20 @@ use Rattle.std.proofs.Common.{◌+◌, ◌<◌, ◌≤◌, ◌≡◌}
 use Rattle.rdf_terms.specs.Document.{dataset as dataset_of}
 use Rattle.canon_model.specs.Meaning.{meaning}
 use Rattle.canon_model.specs.CountedRun.{counted_call}
-use Rattle.ndegree_hash.specs.KnownNodes.{AllKnown, IsKnown, IsTrail}
-use Rattle.ndegree_hash.specs.OpenCalls.{IsRunning}
-use Rattle.ndegree_hash.specs.OwedTies.{owed, owed_below}
-use Rattle.ndegree_hash.specs.FramePlaces.{work_left}
+use Rattle.ndegree_hash.specs.KnownNodes.{IsKnown, IsTrail}
+use Rattle.ndegree_hash.specs.OwedTies.{owed}
+use Rattle.ndegree_hash.proofs.MachineState.{AllKnown, IsRunning, owed_below, work_left}
 use Rattle.ndegree_hash.proofs.machine.run.Given as goal
 
 abbrev pub invariant-loop-at : goal.invariant-loop-at
 invariant-loop-at l = record {
-  running : IsRunning (meaning l.profile) (dataset_of l.dataset) (counted_call (meaning l.profile) (dataset_of l.dataset) l.canon.list) l.canon.list (counted_call (meaning l.profile) (dataset_of l.dataset) l.canon.list l.node l.fn.trail.list) (record { spent = l.fn.budget.spent; log = l.fn.ties }) l.trail.list l.below.items l.frame l.at (record { spent = l.budget.spent; log = l.ties });
+  running : IsRunning (meaning l.profile) (dataset_of l.dataset) (counted_call (meaning l.profile) (dataset_of l.dataset) l.canon.list) l.canon.list
+      (counted_call (meaning l.profile) (dataset_of l.dataset) l.canon.list l.node l.fn.trail.list) (record { spent = l.fn.budget.spent; log = l.fn.ties }) l.trail.list l.below.items l.frame l.at
+      (record { spent = l.budget.spent; log = l.ties });
   known : IsKnown (dataset_of l.dataset) l.canon.list l.trail.list l.frame;
   below : AllKnown (dataset_of l.dataset) l.canon.list l.trail.list l.below.items;
   trail : IsTrail (dataset_of l.dataset) l.canon.list l.trail.list;
-  room : l.ties.total + owed_below l.below.items + owed l.frame l.at + l.fn.budget.spent < l.budget.spent + l.fn.ties.total;
+  owes : l.ties.total + owed_below l.below.items + owed l.frame l.at + l.fn.budget.spent < l.budget.spent + l.fn.ties.total;
   within : l.budget.spent ≤ l.budget.limit;
   limit : l.budget.limit ≡ l.fn.budget.limit;
   grown : l.fn.budget.spent ≤ l.budget.spent;

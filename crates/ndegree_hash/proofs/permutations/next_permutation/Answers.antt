@@ -11,7 +11,7 @@ use Rattle.ndegree_hash.proofs.Keeping.{IsTrail-take, known-permuted, known-same
 use Rattle.ndegree_hash.proofs.Behind.{behind-last, behind-next}
 use Rattle.ndegree_hash.proofs.EndedPermutations.{between-begins, between-closes}
 use Rattle.ndegree_hash.proofs.TrailParts.{choice-kept}
-use Rattle.std.proofs.lemmas.List.{length-take, take_all}
+use Rattle.std.proofs.lemmas.List.{take-take}
 use Rattle.ndegree_hash.proofs.permutations.next_permutation.Goals as goal
 
 pub returns-then-not-next-clause-leads : goal.returns-then-not-next-clause-leads
@@ -40,7 +40,8 @@ returns-clause-keeps c =
           known-permuted D c.args.canon.now.list c.args.trail.now.list c.undo.new.self.list c.args.frame.now c.keep_aside.new.frame
           (subst (Permutes c.args.frame.now.arrangement) (sym h.arrangement) c.if-not-next.ensures.moves.permutes) (ap (λ (g : OpenGroup). g.bags) (h.group []))
           (ap (λ u. choice_of u c.keep_aside.new.frame) c.undo.ensures.list
-          ∙ choice-kept c.args.trail.now.list (take c.keep_aside.new.frame.mark c.args.trail.now.list) c.keep_aside.new.frame h.aside (take_all c.keep_aside.new.frame.mark (take c.keep_aside.new.frame.mark c.args.trail.now.list) (let l = length-take c.keep_aside.new.frame.mark c.args.trail.now.list in omega arith))
+          ∙ choice-kept c.args.trail.now.list (take c.keep_aside.new.frame.mark c.args.trail.now.list) c.keep_aside.new.frame h.aside
+          (take-take c.keep_aside.new.frame.mark c.keep_aside.new.frame.mark c.args.trail.now.list (omega arith))
           ∙ ap (λ (g : OpenGroup). g.chosen) (h.group [])) k;
       trail = λ D k t. subst (IsTrail D c.args.canon.now.list) (sym c.undo.ensures.list) (IsTrail-take D c.args.canon.now.list c.keep_aside.new.frame.mark c.args.trail.now.list t);
     }

@@ -1,6 +1,6 @@
 use Rattle.std.proofs.Common.{length}
 use Rattle.canon_model.specs.Meaning.{meaning}
-use Rattle.related_hash.specs.Gathering.{AreArrangedBefore}
+use Rattle.related_hash.proofs.SoFar.{AreArrangedBefore}
 use Rattle.related_hash.proofs.grouping.all_closed.Given as goal
 
 abbrev pub invariant-loop-group : goal.invariant-loop-group

@@ -1,5 +1,5 @@
 use Rattle.std.proofs.Common.{vec_len}
-use Rattle.related_hash.specs.Gathering.{HoldRest}
+use Rattle.related_hash.proofs.SoFar.{HoldRest}
 use Rattle.related_hash.proofs.grouping.gathered.Given as goal
 
 abbrev pub invariant-loop-entry : goal.invariant-loop-entry

@@ -1,11 +1,10 @@
 use Rattle.std.proofs.Common.{ap, map, sym, ◌∙◌}
-use Rattle.rdf_terms.specs.Lists.{sorted}
+use Rattle.rdf_terms.proofs.Common.{sorted, map-map}
 use Rattle.canon_model.specs.Groups.{hash_of_entry}
 use Rattle.canon_model.specs.Meaning.{meaning}
 use Rattle.related_hash.specs.Entries.{related_entry}
 use Rattle.related_hash.proofs.SortedGroups.{arranged-are_groups, arranged-ascend}
 use Rattle.related_hash.proofs.grouping.groups_of_entries.Goals as goal
-use Rattle.rdf_terms.proofs.MadeLists.{map-map}
 
 pub returns-clause-groups : goal.returns-clause-groups
 returns-clause-groups c =

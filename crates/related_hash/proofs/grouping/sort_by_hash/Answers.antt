@@ -3,8 +3,7 @@ use Rattle.std.proofs.lemmas.Cmp.{nat_list_cmp_total}
 use Rattle.std.proofs.lemmas.List.Sorted.{answers_always, ranks_by}
 use Rattle.std.specs.Cmp.Lexicographic.{slice_cmp}
 use Rattle.std.specs.Ordering.{is_lt, nat_cmp}
-use Rattle.rdf_terms.proofs.Permutations.{Permutes-from_IsPermutation, Permutes-map}
-use Rattle.rdf_terms.proofs.SortedTexts.{sorted_from_sort_by_text}
+use Rattle.rdf_terms.proofs.Common.{Permutes-from_IsPermutation, Permutes-map, sorted_from_sort_by_text}
 use Rattle.related_hash.specs.Entries.{hash_of, related_entry}
 use Rattle.related_hash.proofs.grouping.sort_by_hash.Goals as goal
 

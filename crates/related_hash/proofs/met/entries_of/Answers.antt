@@ -12,5 +12,8 @@ add_quad-requires-clause-place c = place_of_quad c.args.call.now.dataset.now c.a
 
 pub returns : goal.returns
 returns c =
-    c.loop-place.invariant ∙ ap (flat_map (entries_at (meaning c.args.call.now.profile) c.args.call.now.dataset.now c.args.call.now.canon.now.list c.args.call.now.issuer.now.list c.args.call.now.node)) (take_all c.loop-place.place-index c.quads_of-places.result.now c.loop-place-test.false)
-    ∙ entries_at_places (meaning c.args.call.now.profile) c.args.call.now.dataset.now c.args.call.now.canon.now.list c.args.call.now.issuer.now.list c.args.call.now.node c.quads_of-places.result.now c.quads_of-places.ensures
+    c.loop-place.invariant
+    ∙ ap (flat_map (entries_at (meaning c.args.call.now.profile) c.args.call.now.dataset.now c.args.call.now.canon.now.list c.args.call.now.issuer.now.list c.args.call.now.node))
+    (take_all c.loop-place.place-index c.quads_of-places.result.now c.loop-place-test.false)
+    ∙ entries_at_places (meaning c.args.call.now.profile) c.args.call.now.dataset.now c.args.call.now.canon.now.list c.args.call.now.issuer.now.list c.args.call.now.node c.quads_of-places.result.now
+    c.quads_of-places.ensures
