@@ -1,13 +1,9 @@
 -- The nodes that are alone under their hashes are different nodes; where they are all nodes, no class is left to run.
-use Rattle.std.proofs.Common.{◌≡◌, ℕ, ◌<◌, ◌≤◌, true, false, cond, not, Bool, List, [], ◌∷◌, ◌++◌, ◌⊎◌, map, filter, flat_map, length, eqb, eqb-true, inl, inr, refl, sym, ap, ◌∙◌, subst, true≢false, arith}
+use Rattle.std.proofs.Common.{◌≡◌, ℕ, ◌<◌, ◌≤◌, true, false, cond, not, Bool, List, [], ◌∷◌, map, filter, flat_map, length, eqb, eqb-true, inl, inr, refl, sym, ap, ◌∙◌, subst, true≢false, arith}
 use Rattle.std.specs.Str.{bytes_eq}
 use Rattle.std.proofs.lemmas.Bool.{or_cases}
 use Rattle.std.proofs.lemmas.Slice.Eq.{bytes_eq-Decides}
-use Rattle.rdf_terms.specs.Dataset.{Dataset}
-use Rattle.rdf_terms.specs.Lists.{In, AreDistinct, Text, is_at_most, numbers_below, sorted}
-use Rattle.rdf_terms.proofs.Membership.{In-append}
-use Rattle.rdf_terms.proofs.SortedTexts.{Ascends, Ascends-sorted}
-use Rattle.rdf_terms.proofs.TextOrder.{is_at_most-antisymm, is_at_most-trans}
+use Rattle.rdf_terms.proofs.Common.{Dataset, In, AreDistinct, Text, numbers_below, sorted, Ascends, Ascends-sorted, from_In-filter, from_In-flat_map, AreDistinct-append, from_In-numbers_below}
 use Rattle.canon_model.specs.Allowed.{first_degree_hashes, has_first_degree_hash, has_no_canonical, issue_results, issued_for_unique_hashes, nodes_with_hash, single}
 use Rattle.canon_model.specs.CountedRun.{Counted, after, counted_hashes, counted_run, followed_by, logged, nothing, result_of, sort_results, ties_of_results, trace_of_starts}
 use Rattle.canon_model.specs.FirstDegree.{hash_first_degree_quads}
@@ -18,23 +14,10 @@ use Rattle.canon_model.proofs.CanonicalLists.{from_In-single, unique_hashes-cano
 use Rattle.canon_model.proofs.IssueEach.{issue_each-new}
 use Rattle.canon_model.proofs.Issuers.{AreOnce, are_once_from_distinct}
 use Rattle.canon_model.proofs.Pigeonhole.{are_once-length}
-use Rattle.rdf_terms.proofs.MadeLists.{from_In-filter, from_In-flat_map, AreDistinct-append}
-use Rattle.rdf_terms.proofs.Ranks.{from_In-numbers_below}
+use Rattle.canon_model.proofs.TextsOnce.{not_again}
 use Rattle.canon_model.proofs.Neighbours.{from_In-each_text_once}
 
 -- ---- each text of an ascending list once
-
-at_most-all : (y z : Text) (ys : List Text) → Ascends (y ∷ ys) → In z ys → is_at_most y z ≡ true
-at_most-all y z [] a h = absurd h
-at_most-all y z (w ∷ ys) a (inl e) = subst (λ v. is_at_most y v ≡ true) (sym e) a.0
-at_most-all y z (w ∷ ys) a (inr h) = is_at_most-trans y w z a.0 (at_most-all w z ys a.1 h)
-
-not_again : (x y : Text) (ys : List Text) → Ascends (x ∷ y ∷ ys) → bytes_eq x y ≡ false → ¬ (In x (y ∷ ys))
-not_again x y ys a f h = true≢false (sym ((bytes_eq-Decides x y).1 (same h)) ∙ f)
-  where
-    same : In x (y ∷ ys) → x ≡ y
-    same (inl e) = e
-    same (inr k) = is_at_most-antisymm x y a.0 (at_most-all y x ys a.1 k)
 
 AreDistinct-once : (xs : List Text) → Ascends xs → AreDistinct (each_text_once xs)
 AreDistinct-once [] a = tt
@@ -47,7 +30,8 @@ AreDistinct-once (x ∷ y ∷ ys) a = by (bytes_eq x y) refl (AreDistinct-once (
 
 -- ---- lists that are put behind one another
 
-AreDistinct-flat_map : (f : Text → List ℕ) → ((h : Text) → AreDistinct (f h)) → ((h k : Text) (x : ℕ) → In x (f h) → In x (f k) → h ≡ k) → (hs : List Text) → AreDistinct hs → AreDistinct (flat_map f hs)
+AreDistinct-flat_map : (f : Text → List ℕ) → ((h : Text) → AreDistinct (f h)) → ((h k : Text) (x : ℕ) → In x (f h) → In x (f k) → h ≡ k) → (hs : List Text) → AreDistinct hs
+    → AreDistinct (flat_map f hs)
 AreDistinct-flat_map f once apart [] d = tt
 AreDistinct-flat_map f once apart (h ∷ hs) d =
     AreDistinct-append (f h) (flat_map f hs) (once h) (AreDistinct-flat_map f once apart hs d.1)
@@ -105,7 +89,8 @@ module _ (ρ : Hashing) (D : Dataset) where
       by false f = let m : length (x ∷ c) ≤ D.nodes = are_once-length D.nodes (x ∷ c) (f, once) below in absurd (omega arith)
 
   -- the run ends with the nodes that are alone
-  pub run-alone : (nodes : List ℕ) → nodes ≡ flat_map (λ h. single (nodes_with_hash ρ D h)) (first_degree_hashes ρ D) → length nodes ≡ D.nodes → counted_run ρ D ≡ record { trace = nothing; value = nodes }
+  pub run-alone : (nodes : List ℕ) → nodes ≡ flat_map (λ h. single (nodes_with_hash ρ D h)) (first_degree_hashes ρ D) → length nodes ≡ D.nodes
+      → counted_run ρ D ≡ record { trace = nothing; value = nodes }
   run-alone nodes is long =
       let issued : issued_for_unique_hashes ρ D ≡ nodes = alone-issued ∙ sym is in
       let k = unique_hashes-canonical ρ D in

@@ -1,5 +1,5 @@
 -- The nodes that are alone, class by class.
-use Rattle.std.proofs.Common.{◌≡◌, ℕ, ◌<◌, List, [], ◌++◌, map, length, append_assoc, append-nil, refl, sym, ap, ◌∙◌, subst}
+use Rattle.std.proofs.Common.{◌≡◌, ℕ, ◌<◌, List, ◌++◌, map, length, append_assoc, sym, ap, ◌∙◌, subst}
 use Rattle.std.specs.List.{flat_map}
 use Rattle.rdf_terms.specs.Lists.{Text}
 use Rattle.canon_model.specs.Allowed.{single}
@@ -17,10 +17,8 @@ pub record IsAloneSoFar (hash : ℕ → Text) (count : ℕ) (nodes : List (Text 
   pub all : found ++ alone_in hash count left ≡ alone_in hash count nodes
 
 module _ (hash : ℕ → Text) (count : ℕ) (nodes : List (Text × ℕ)) where
-  pub alone-begins : IsRanked hash count nodes → IsAloneSoFar hash count nodes [] nodes
-  alone-begins r = record { ranked = r; all = refl }
-
-  pub alone-next : (found new : List ℕ) (left class behind : List (Text × ℕ)) → 0 < length left → class ≡ front_class (class_hash left) left → behind ≡ behind_class (class_hash left) left → new ≡ found ++ single (map node_of class)
+  pub alone-next : (found new : List ℕ) (left class behind : List (Text × ℕ)) → 0 < length left → class ≡ front_class (class_hash left) left → behind ≡ behind_class (class_hash left) left
+      → new ≡ found ++ single (map node_of class)
       → IsAloneSoFar hash count nodes found left → IsAloneSoFar hash count nodes new behind
   alone-next found new left class behind l c b n a = record {
     ranked = subst (IsRanked hash count) (sym b) (class-behind hash count left l a.ranked);
@@ -31,6 +29,3 @@ module _ (hash : ℕ → Text) (count : ℕ) (nodes : List (Text × ℕ)) where
         ∙ ap (λ hs. found ++ flat_map (λ h. single (nodes_under hash count h)) hs) (sym (class-once left l))
         ∙ a.all;
   }
-
-  pub alone-ends : (found : List ℕ) (left : List (Text × ℕ)) → left ≡ [] → IsAloneSoFar hash count nodes found left → found ≡ alone_in hash count nodes
-  alone-ends found left e a = sym (append-nil found) ∙ ap (λ ps. found ++ alone_in hash count ps) (sym e) ∙ a.all

@@ -1,8 +1,6 @@
 -- What a run has counted says all of what it answers.
 use Rattle.std.proofs.Common.{◌≡◌, ℕ, List, ◌∷◌, Option, Some, None, MatchOption, inl, refl, sym, ap, ◌∙◌, subst, arith}
-use Rattle.rdf_terms.specs.Dataset.{Dataset, IsValid}
-use Rattle.rdf_terms.specs.Lists.{In}
-use Rattle.rdf_terms.proofs.Membership.{In-append_right}
+use Rattle.rdf_terms.proofs.Common.{Dataset, IsValid, In, In-append_right}
 use Rattle.canonical_writer.specs.Determined.{ListsNodes}
 use Rattle.canon_model.specs.Allowed.{IsCanonicalList, canonical_form}
 use Rattle.canon_model.specs.CountedRun.{Tie, counted_run}
@@ -63,7 +61,8 @@ module _ (ρ : Hashing) (D : Dataset) (valid : IsValid D) where
   -- ---- all of it
 
   pub canon-from_run : (canon : Canon) (old log : LoggedTies) → canon.order ≡ (counted_run ρ D).value → canon.bytes ≡ canonical_form D canon.order → canon.units ≡ units_of ρ D
-      → canon.ties ≡ log.total → canon.joined ≡ log.joined → canon.unsettled ≡ log.unsettled → old.total ≡ 0 → old.joined ≡ 0 → old.unsettled ≡ None → LogsAll D (ties_of_run ρ D) old log → IsCanon ρ D canon
+      → canon.ties ≡ log.total → canon.joined ≡ log.joined → canon.unsettled ≡ log.unsettled → old.total ≡ 0 → old.joined ≡ 0 → old.unsettled ≡ None → LogsAll D (ties_of_run ρ D) old log
+      → IsCanon ρ D canon
   canon-from_run canon old log order bytes units ties joined unsettled no_total no_joined no_tie l = record {
     order_is = order;
     order_allowed = run-allowed canon.order order;

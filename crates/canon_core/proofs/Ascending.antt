@@ -6,11 +6,8 @@ use Rattle.std.specs.List.Sorted.{IsSorted}
 use Rattle.std.proofs.lemmas.Bool.Decides.{nat_tests}
 use Rattle.std.proofs.lemmas.Cmp.{tied_itself}
 use Rattle.std.proofs.lemmas.List.Sorted.{ranks_by, sorted_far}
-use Rattle.rdf_terms.specs.Lists.{In, AreDistinct, numbers_below}
-use Rattle.rdf_terms.proofs.Membership.{In-append, In-map}
-use Rattle.rdf_terms.proofs.Ranks.{from_In-numbers_below}
+use Rattle.rdf_terms.proofs.Common.{In, AreDistinct, numbers_below, In-append, In-map, from_In-numbers_below, from_In-filter, place_within}
 use Rattle.canon_core.specs.HashOrder.{StrictlyAscends}
-use Rattle.rdf_terms.proofs.MadeLists.{from_In-filter}
 
 -- ---- by any total order
 
@@ -49,11 +46,6 @@ module _ {A : Type 0} (cmp : A → A → Ordering) (o : IsTotalOrder cmp) where
       by Equal e = absurd (apart (tied x y e))
       by Greater e = let back : cmp y x ≡ Less = o.antisymm y x ∙ ap ordering_reverse e in let d : true ≡ false = sym (ap is_lt back) ∙ up in cc
 
-  place : (xs : List A) (y : A) → In y xs → (k : ℕ) × (k < length xs) × ((d : A) → get_or xs k d ≡ y)
-  place [] y h = absurd h
-  place (x ∷ xs) y (inl e) = (0, omega arith, λ d. sym e)
-  place (x ∷ xs) y (inr h) = let p = place xs y h in let l : p.0 < length xs = p.1 in (suc p.0, omega arith, p.2)
-
   sorted-behind : (x : A) (xs : List A) → IsSorted cmp (x ∷ xs) → IsSorted cmp xs
   sorted-behind x xs up k d lo hi =
       let next : suc k + 1 ≡ suc (k + 1) = omega arith in
@@ -63,12 +55,12 @@ module _ {A : Type 0} (cmp : A → A → Ordering) (o : IsTotalOrder cmp) where
   ascends_from_sort number tied [] up once = tt
   ascends_from_sort number tied (x ∷ xs) up once = (
     λ y h.
-        let p = place xs y h in
+        let p = place_within xs y x h in
         let l : p.0 < length xs = p.1 in
         let low : 0 ≤ suc p.0 = omega arith in
         let within : suc p.0 < length (x ∷ xs) = omega arith in
         let far : is_lt (cmp (get_or xs p.0 x) x) ≡ false = sorted_far (λ v w. is_lt (cmp v w)) (ranks_by o (λ (v : A). v)) (x ∷ xs) up 0 (suc p.0) x low within in
-        before_from_sort number tied x y (subst (λ v. is_lt (cmp v x) ≡ false) (p.2 x) far) (λ e. once.0 (subst (λ n. In n (map number xs)) (sym e) (In-map number xs y h))),
+        before_from_sort number tied x y (subst (λ v. is_lt (cmp v x) ≡ false) p.2 far) (λ e. once.0 (subst (λ n. In n (map number xs)) (sym e) (In-map number xs y h))),
     ascends_from_sort number tied xs (sorted-behind x xs up) once.1,
   )
 

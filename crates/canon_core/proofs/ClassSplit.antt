@@ -1,5 +1,6 @@
 -- Nodes in the order of their hashes, cut behind the class at their front.
-use Rattle.std.proofs.Common.{◌≡◌, ℕ, suc, ◌+◌, ◌<◌, true, false, cond, Bool, List, [], ◌∷◌, ◌⊎◌, map, take, drop, get_or, length, ◌-◌, ◌≤◌, slice_range, length-drop, nat_cmp, inl, inr, refl, sym, ap, ◌∙◌, subst, true≢false, arith, Ordering, Less, Equal, Greater}
+use Rattle.std.proofs.lemmas.Bool.{false_from_ne_true}
+use Rattle.std.proofs.Common.{◌≡◌, ℕ, suc, ◌+◌, ◌<◌, true, false, cond, Bool, List, [], ◌∷◌, ◌⊎◌, map, take, drop, get_or, length, ◌-◌, ◌≤◌, slice_range, length-drop, nat_cmp, inl, inr, refl, sym, ap, ◌∙◌, subst, arith, Ordering, Less, Equal, Greater}
 use Rattle.std.specs.Ordering.{is_lt, ordering_reverse, ordering_then}
 use Rattle.std.specs.Cmp.Lexicographic.{slice_cmp}
 use Rattle.std.specs.List.{prefix_len}
@@ -8,22 +9,15 @@ use Rattle.std.proofs.lemmas.Cmp.{nat_cmp_total, nat_list_cmp_total, tied_itself
 use Rattle.std.proofs.lemmas.List.Sums.{prefix_len-le-length, take_while-cons}
 use Rattle.std.proofs.lemmas.List.{drop-drop}
 use Rattle.std.proofs.lemmas.Slice.Eq.{bytes_eq-Decides}
-use Rattle.rdf_terms.specs.Lists.{In, Text, is_before, numbers_below}
-use Rattle.rdf_terms.proofs.Membership.{from_In-map, In-map}
-use Rattle.rdf_terms.proofs.Ranks.{from_In-numbers_below as below_from_In, In-numbers_below as In_from_below}
-use Rattle.rdf_terms.proofs.TextOrder.{is_before-irrefl, same_from_neither_before}
-use Rattle.canonical_writer.proofs.FrontOrder.{slice_from}
+use Rattle.rdf_terms.proofs.Common.{In, Text, is_before, numbers_below, from_In-map, In-map, from_In-numbers_below as below_from_In, In-numbers_below as In_from_below, is_before-irrefl, same_from_neither_before, from_In-filter, In-filter}
+use Rattle.canonical_writer.proofs.NumberOrder.{slice_from}
+use Rattle.canon_model.proofs.TextsOnce.{different}
 use Rattle.canon_model.specs.Groups.{each_text_once}
-use Rattle.canon_model.proofs.IssueEach.{false_of}
 use Rattle.canon_core.specs.HashOrder.{StrictlyAscends, IsRanked, class_hash, front_class, behind_class, hash_of, node_of, node_cmp, nodes_under}
 use Rattle.canon_core.proofs.Ascending.{same_ascending, StrictlyAscends-filter, StrictlyAscends-numbers_below}
-use Rattle.rdf_terms.proofs.MadeLists.{from_In-filter, In-filter}
 
 abbrev Pair : Type 0
 Pair = Text × ℕ
-
-different : (x y : Text) → bytes_eq x y ≡ false → ¬ (x ≡ y)
-different x y f e = true≢false (sym ((bytes_eq-Decides x y).1 e) ∙ f)
 
 -- ---- what the order of two nodes says
 
@@ -148,7 +142,7 @@ module _ (h : Text) where
           → cond t (each_text_once (map hash_of (q ∷ ys))) (p.0 ∷ each_text_once (map hash_of (q ∷ ys))) ≡ h ∷ each_text_once (map hash_of (behind_class h (q ∷ ys)))
       by true f r = r (sym ((bytes_eq-Decides p.0 q.0).0 f) ∙ e)
       by false f r =
-          let other : bytes_eq q.0 h ≡ false = false_of (bytes_eq q.0 h) (λ g. different p.0 q.0 f (e ∙ sym ((bytes_eq-Decides q.0 h).0 g))) in
+          let other : bytes_eq q.0 h ≡ false = false_from_ne_true (bytes_eq q.0 h) (λ g. different p.0 q.0 f (e ∙ sym ((bytes_eq-Decides q.0 h).0 g))) in
           ap (λ w. w ∷ each_text_once (map hash_of (q ∷ ys))) e ∙ ap (λ t. h ∷ each_text_once (map hash_of (cond t (behind_class h ys) (q ∷ ys)))) (sym other)
 
 -- ---- the classes of all nodes
@@ -157,9 +151,6 @@ module _ (hash : ℕ → Text) (count : ℕ) (p : Pair) (xs : List Pair) (r : Is
   least : IsLeast p.0 (p ∷ xs)
   least q (inl e) = subst (λ (w : Pair). is_before w.0 p.0 ≡ false) (sym e) (is_before-irrefl p.0)
   least q (inr k) = hash_not_before p q (r.ascends.0 q k)
-
-  has_hash : ℕ → Bool
-  has_hash n = bytes_eq (hash n) p.0
 
   class_there : (n : ℕ) → In n (map node_of (front_class p.0 (p ∷ xs))) → In n (nodes_under hash count p.0)
   class_there n i =
@@ -190,7 +181,8 @@ module _ (hash : ℕ → Text) (count : ℕ) (p : Pair) (xs : List Pair) (r : Is
     whole = λ q i n low e. by q i n e (In-either p.0 (p ∷ xs) (hash n, n) (r.whole q (In-behind p.0 (p ∷ xs) q i) n low e));
   }
     where
-      by : (q : Pair) → In q (behind_class p.0 (p ∷ xs)) → (n : ℕ) → hash n ≡ q.0 → In (hash n, n) (front_class p.0 (p ∷ xs)) ⊎ In (hash n, n) (behind_class p.0 (p ∷ xs)) → In (hash n, n) (behind_class p.0 (p ∷ xs))
+      by : (q : Pair) → In q (behind_class p.0 (p ∷ xs)) → (n : ℕ) → hash n ≡ q.0 → In (hash n, n) (front_class p.0 (p ∷ xs)) ⊎ In (hash n, n) (behind_class p.0 (p ∷ xs))
+          → In (hash n, n) (behind_class p.0 (p ∷ xs))
       by q i n e (inl f) = absurd (other_behind p.0 (p ∷ xs) r.ascends least q i (sym e ∙ (In-front p.0 (p ∷ xs) (hash n, n) f).1))
       by q i n e (inr b) = b
 
@@ -242,11 +234,13 @@ pub some_behind : (nodes : List Pair) (start : ℕ) → start < length nodes →
 some_behind nodes start l = let b = length-drop start nodes in omega arith
 
 -- the first node is in its class
-pub class_len-first : (nodes : List Pair) (p : Pair) (m : ℕ) → 0 < length nodes → p ≡ get_or nodes 0 p → m ≡ prefix_len (λ q. bytes_eq q.0 p.0) (take (length nodes - 1) (drop 1 nodes)) → 1 + m ≡ prefix_len (λ q. bytes_eq q.0 (class_hash nodes)) nodes
+pub class_len-first : (nodes : List Pair) (p : Pair) (m : ℕ) → 0 < length nodes → p ≡ get_or nodes 0 p → m ≡ prefix_len (λ q. bytes_eq q.0 p.0) (take (length nodes - 1) (drop 1 nodes))
+    → 1 + m ≡ prefix_len (λ q. bytes_eq q.0 (class_hash nodes)) nodes
 class_len-first [] p m l e f = absurd (omega arith)
 class_len-first (q ∷ xs) p m l e f =
     let rest : m ≡ prefix_len (λ (r : Pair). bytes_eq r.0 q.0) xs = f ∙ (λ i. prefix_len (λ (r : Pair). bytes_eq r.0 (e i).0) (slice_from 1 (q ∷ xs) i)) in
     ap (λ k. 1 + k) rest ∙ ap (λ t. cond t (1 + prefix_len (λ (r : Pair). bytes_eq r.0 q.0) xs) 0) (sym ((bytes_eq-Decides q.0 q.0).1 refl))
 
-pub class_len-most : (nodes : List Pair) (p : Pair) (m : ℕ) → 0 < length nodes → p ≡ get_or nodes 0 p → m ≡ prefix_len (λ q. bytes_eq q.0 p.0) (take (length nodes - 1) (drop 1 nodes)) → 1 + m ≤ length nodes
+pub class_len-most : (nodes : List Pair) (p : Pair) (m : ℕ) → 0 < length nodes → p ≡ get_or nodes 0 p → m ≡ prefix_len (λ q. bytes_eq q.0 p.0) (take (length nodes - 1) (drop 1 nodes))
+    → 1 + m ≤ length nodes
 class_len-most nodes p m l e f = let c = class_len-first nodes p m l e f in let b = prefix_len-le-length (λ (q : Pair). bytes_eq q.0 (class_hash nodes)) nodes in omega arith

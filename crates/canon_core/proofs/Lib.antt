@@ -1,9 +1,8 @@
-mod HashFronts
+mod HashNumbers
 pub mod Ascending
 mod ClassSplit
 mod RankedNodes
 mod AloneNodes
-mod LoggedTies
 mod OnTheWay
 mod ResultOrder
 mod IssuingEach

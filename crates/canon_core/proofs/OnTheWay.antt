@@ -1,7 +1,6 @@
 -- What was counted so far, followed by what is left, is the whole run.
-use Rattle.std.proofs.Common.{◌≡◌, ℕ, ◌+◌, ◌<◌, List, [], ◌∷◌, ◌++◌, length, map, refl, sym, ap, ◌∙◌, subst, arith}
-use Rattle.rdf_terms.specs.Dataset.{Dataset}
-use Rattle.rdf_terms.specs.Lists.{Text}
+use Rattle.std.proofs.Common.{◌≡◌, ℕ, ◌+◌, ◌<◌, List, [], ◌∷◌, ◌++◌, length, map, refl, sym, ap, ◌∙◌, arith}
+use Rattle.rdf_terms.proofs.Common.{Dataset, Text}
 use Rattle.canon_model.specs.CountedRun.{Counted, Trace, after, counted_hashes, counted_start, followed_by, nothing, trace_of_starts}
 use Rattle.canon_model.specs.Groups.{each_text_once}
 use Rattle.canon_model.specs.Hashing.{Hashing}
@@ -10,7 +9,7 @@ use Rattle.ndegree_hash.proofs.Traces.{after-after, followed_by-assoc, followed_
 use Rattle.canon_core.specs.Classes.{run_of_class, run_from}
 use Rattle.canon_core.specs.HashOrder.{behind_class, class_hash, front_class, hash_of}
 use Rattle.canon_core.proofs.ClassSplit.{class_hash-front, once-class}
-use Rattle.canon_core.proofs.LoggedTies.{logs-append, logs-none}
+use Rattle.ndegree_hash.proofs.Logging.{logs_all-append, logs-none}
 
 pub record IsOnTheWay (D : Dataset) (whole left : Counted (List ℕ)) (spent_before spent : ℕ) (log_before log : LoggedTies) : Type 0 where
   pub trace : Trace
@@ -21,34 +20,22 @@ pub record IsOnTheWay (D : Dataset) (whole left : Counted (List ℕ)) (spent_bef
 pub way-begins : (D : Dataset) (whole : Counted (List ℕ)) (spent : ℕ) (log : LoggedTies) → IsOnTheWay D whole whole spent spent log log
 way-begins D whole spent log = record { trace = nothing; same = after-nothing whole; units = omega arith; logs = logs-none D log }
 
-pub way-next : (D : Dataset) (whole left : Counted (List ℕ)) (t : Trace) (more : Counted (List ℕ)) (s0 s u : ℕ) (l0 l m : LoggedTies) → IsOnTheWay D whole left s0 s l0 l → left ≡ after t more → u ≡ s + t.units → LogsAll D t.ties l m
+pub way-next : (D : Dataset) (whole left : Counted (List ℕ)) (t : Trace) (more : Counted (List ℕ)) (s0 s u : ℕ) (l0 l m : LoggedTies) → IsOnTheWay D whole left s0 s l0 l → left ≡ after t more
+    → u ≡ s + t.units → LogsAll D t.ties l m
     → IsOnTheWay D whole more s0 u l0 m
 way-next D whole left t more s0 s u l0 l m w e units logs = record {
   trace = followed_by w.trace t;
   same = sym (after-after w.trace t more) ∙ ap (after w.trace) (sym e) ∙ w.same;
   units = let k = w.units in omega arith;
-  logs = logs-append D w.trace.ties t.ties l0 l m w.logs logs;
+  logs = logs_all-append D w.trace.ties t.ties l0 l m w.logs logs;
 }
 
--- nothing is left
-pub record IsWholeWay (D : Dataset) (whole : Counted (List ℕ)) (value : List ℕ) (spent_before spent : ℕ) (log_before log : LoggedTies) : Type 0 where
-  pub value_is : value ≡ whole.value
-  pub units : spent ≡ spent_before + whole.trace.units
-  pub logs : LogsAll D whole.trace.ties log_before log
-
-pub way-ends : (D : Dataset) (whole left : Counted (List ℕ)) (value : List ℕ) (s0 s : ℕ) (l0 l : LoggedTies) → IsOnTheWay D whole left s0 s l0 l → left ≡ record { trace = nothing; value = value } → IsWholeWay D whole value s0 s l0 l
-way-ends D whole left value s0 s l0 l w e =
-    let all : record { trace = w.trace; value = value } ≡ whole = ap (λ (t : Trace). record { trace = t; value = value }) (sym (followed_by-nothing w.trace)) ∙ ap (after w.trace) (sym e) ∙ w.same in
-    record {
-      value_is = ap (λ (o : Counted (List ℕ)). o.value) all;
-      units = w.units ∙ ap (λ (o : Counted (List ℕ)). s0 + o.trace.units) all;
-      logs = subst (λ (o : Counted (List ℕ)). LogsAll D o.trace.ties l0 l) all w.logs;
-    }
-
 -- the limit is passed on the next stretch, and so by the whole
-pub way-over : (D : Dataset) (whole left : Counted (List ℕ)) (t : Trace) (more : Counted (List ℕ)) (s0 s limit : ℕ) (l0 l : LoggedTies) → IsOnTheWay D whole left s0 s l0 l → left ≡ after t more → limit < s + t.units → limit < s0 + whole.trace.units
+pub way-over : (D : Dataset) (whole left : Counted (List ℕ)) (t : Trace) (more : Counted (List ℕ)) (s0 s limit : ℕ) (l0 l : LoggedTies) → IsOnTheWay D whole left s0 s l0 l → left ≡ after t more
+    → limit < s + t.units → limit < s0 + whole.trace.units
 way-over D whole left t more s0 s limit l0 l w e over =
-    let all : w.trace.units + (t.units + more.trace.units) ≡ whole.trace.units = ap (λ (o : Counted (List ℕ)). w.trace.units + o.trace.units) (sym e) ∙ ap (λ (o : Counted (List ℕ)). o.trace.units) w.same in
+    let all : w.trace.units + (t.units + more.trace.units) ≡ whole.trace.units = ap (λ (o : Counted (List ℕ)). w.trace.units + o.trace.units) (sym e)
+    ∙ ap (λ (o : Counted (List ℕ)). o.trace.units) w.same in
     let k = w.units in
     omega arith
 
@@ -58,7 +45,8 @@ module _ (ρ : Hashing) (D : Dataset) where
   first-class : (h : Text) (hs : List Text) (c : List ℕ) → counted_hashes ρ D (h ∷ hs) c ≡ after (run_of_class ρ D h c).trace (counted_hashes ρ D hs (run_of_class ρ D h c).value)
   first-class h hs c = ap (λ (t : Trace). after t (counted_hashes ρ D hs (run_of_class ρ D h c).value)) (sym (followed_by-nothing _))
 
-  pub run-next : (p : Text × ℕ) (nodes : List (Text × ℕ)) (c : List ℕ) → run_from ρ D (p ∷ nodes) c ≡ after (run_of_class ρ D p.0 c).trace (run_from ρ D (behind_class p.0 (p ∷ nodes)) (run_of_class ρ D p.0 c).value)
+  pub run-next : (p : Text × ℕ) (nodes : List (Text × ℕ)) (c : List ℕ)
+      → run_from ρ D (p ∷ nodes) c ≡ after (run_of_class ρ D p.0 c).trace (run_from ρ D (behind_class p.0 (p ∷ nodes)) (run_of_class ρ D p.0 c).value)
   run-next p nodes c = ap (λ hs. counted_hashes ρ D hs c) (once-class p.0 p nodes refl) ∙ first-class p.0 (each_of nodes) c
     where
       each_of : List (Text × ℕ) → List Text
@@ -70,9 +58,6 @@ module _ (ρ : Hashing) (D : Dataset) where
   run-class (p ∷ nodes) class behind c l e f =
       let h : class_hash class ≡ p.0 = ap class_hash e ∙ class_hash-front (p ∷ nodes) l in
       run-next p nodes c ∙ (λ i. after (run_of_class ρ D (sym h i) c).trace (run_from ρ D (sym f i) (run_of_class ρ D (sym h i) c).value))
-
-  pub run-none : (c : List ℕ) → run_from ρ D [] c ≡ record { trace = nothing; value = c }
-  run-none c = refl
 
   -- ---- start nodes one after the other
 

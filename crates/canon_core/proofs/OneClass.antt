@@ -1,9 +1,7 @@
 -- What the results of one class are asked, and what they give.
-use Rattle.std.proofs.Common.{◌≡◌, ℕ, zero, suc, inl, inr, ◌+◌, ◌<◌, ◌≤◌, All, List, [], ◌∷◌, ◌++◌, append-nil, length, get_or, map, nat_cmp, refl, sym, ap, ◌∙◌, subst, arith}
-use Rattle.rdf_terms.specs.Dataset.{Dataset, IsValid}
-use Rattle.rdf_terms.specs.Lists.{In, Text, numbers_below}
-use Rattle.rdf_terms.proofs.Permutations.{length-Permutes}
-use Rattle.canon_model.specs.Allowed.{HashPathResult, has_first_degree_hash, has_no_canonical, nodes_with_hash, unissued_nodes}
+use Rattle.std.proofs.Common.{filter, ◌≡◌, ℕ, ◌+◌, ◌<◌, ◌≤◌, All, List, [], ◌∷◌, ◌++◌, append-nil, length, get_or, map, nat_cmp, refl, sym, ap, ◌∙◌, subst, arith}
+use Rattle.rdf_terms.proofs.Common.{Dataset, IsValid, In, Text, numbers_below, length-Permutes, map-map, In-get_or}
+use Rattle.canon_model.specs.Allowed.{HashPathResult, has_first_degree_hash, has_no_canonical, nodes_with_hash, start_of, unissued_nodes}
 use Rattle.canon_model.specs.CountedRun.{counted_results, result_of, sort_results, ties_of_results, trace_of_starts}
 use Rattle.canon_model.specs.Hashing.{Hashing}
 use Rattle.canon_model.proofs.CanonicalLists.{AreCanonical, valid_start}
@@ -15,22 +13,29 @@ use Rattle.canon_model.proofs.RunTies.{from_start, results-ties}
 use Rattle.canon_model.proofs.SortedResults.{sort_results-permutes}
 use Rattle.canon_model.proofs.StartNodes.{unissued_node}
 use Rattle.ndegree_hash.specs.Log.{LoggedTies, LogsAll, LogsInTurn}
-use Rattle.ndegree_hash.proofs.Logging.{logs-all}
+use Rattle.ndegree_hash.proofs.Logging.{logs-all, logs_all-append}
 use Rattle.canon_core.specs.Classes.{IsCanonicalSoFar, run_of_class}
-use Rattle.canon_core.specs.HashOrder.{StrictlyAscends, start_of_result}
-use Rattle.canon_core.specs.Results.{MayBeLogged, MayStart, StartsAscend}
+use Rattle.canon_core.specs.HashOrder.{StrictlyAscends, class_hash, node_of}
+use Rattle.ndegree_hash.specs.OwedTies.{MayBeLogged}
+use Rattle.canon_core.specs.Results.{MayStart, StartsAscend}
 use Rattle.canon_core.proofs.Ascending.{StrictlyAscends-filter, StrictlyAscends-numbers_below}
-use Rattle.canon_core.proofs.LoggedTies.{logs-append}
 use Rattle.std.proofs.lemmas.List.{length-map}
-use Rattle.rdf_terms.proofs.MadeLists.{map-map, In-get_or}
 
-pub canonical-so_far : (D : Dataset) (c : List ℕ) → IsCanonicalSoFar D c → AreCanonical D c
+canonical-so_far : (D : Dataset) (c : List ℕ) → IsCanonicalSoFar D c → AreCanonical D c
 canonical-so_far D c s = record { once = are_once_from_distinct c s.once; below = λ x h. s.below x (In-from_is_issued x c h) }
 
 pub so_far-canonical : (D : Dataset) (c : List ℕ) → AreCanonical D c → IsCanonicalSoFar D c
 so_far-canonical D c k = record { once = are_distinct_from_once c k.once; below = λ x h. k.below x (is_issued-from_In x c h) }
 
-module _ (ρ : Hashing) (D : Dataset) (valid : IsValid D) (c : List ℕ) (k : AreCanonical D c) (h : Text) where
+-- the start nodes of a class are those of its nodes that have no canonical identifier
+pub start-nodes : (ρ : Hashing) (D : Dataset) (c : List ℕ) (class : List (Text × ℕ)) → map node_of class ≡ nodes_with_hash ρ D (class_hash class) → (nodes found : List ℕ) → nodes ≡ found
+    → found ≡ filter (has_no_canonical c) (map node_of class) → nodes ≡ unissued_nodes ρ D c (class_hash class)
+start-nodes ρ D c class all nodes found e f = e ∙ f ∙ ap (filter (has_no_canonical c)) all
+
+module _ (ρ : Hashing) (D : Dataset) (valid : IsValid D) (c : List ℕ) (so_far : IsCanonicalSoFar D c) (h : Text) where
+  k : AreCanonical D c
+  k = canonical-so_far D c so_far
+
   -- ---- the start nodes
 
   pub may-start : (nodes : List ℕ) → nodes ≡ unissued_nodes ρ D c h → (j d : ℕ) → j < length nodes → MayStart D c (get_or nodes j d)
@@ -38,20 +43,22 @@ module _ (ρ : Hashing) (D : Dataset) (valid : IsValid D) (c : List ℕ) (k : Ar
       let s = unissued_node ρ D c h (get_or nodes j d) (subst (λ ns. In (get_or nodes j d) ns) e (In-get_or nodes j d l)) in
       valid_start D c k (get_or nodes j d) s.0 s.1
 
-  starts-are : (ns : List ℕ) → map start_of_result (map (result_of ρ D c) ns) ≡ ns
-  starts-are ns = map-map start_of_result (result_of ρ D c) ns ∙ map_identity (λ n. n) (λ n. refl) ns
+  starts-are : (ns : List ℕ) → map start_of (map (result_of ρ D c) ns) ≡ ns
+  starts-are ns = map-map start_of (result_of ρ D c) ns ∙ map_identity (λ n. n) (λ n. refl) ns
 
   unissued-ascend : StrictlyAscends nat_cmp (unissued_nodes ρ D c h)
   unissued-ascend =
-      StrictlyAscends-filter nat_cmp (has_no_canonical c) (nodes_with_hash ρ D h) (StrictlyAscends-filter nat_cmp (has_first_degree_hash ρ D h) (numbers_below D.nodes) (StrictlyAscends-numbers_below D.nodes))
+      StrictlyAscends-filter nat_cmp (has_no_canonical c) (nodes_with_hash ρ D h)
+      (StrictlyAscends-filter nat_cmp (has_first_degree_hash ρ D h) (numbers_below D.nodes) (StrictlyAscends-numbers_below D.nodes))
 
   pub starts-ascend : (nodes : List ℕ) (results : List HashPathResult) → nodes ≡ unissued_nodes ρ D c h → results ≡ map (result_of ρ D c) nodes → StartsAscend results
-  starts-ascend nodes results e f = subst (StrictlyAscends nat_cmp) (sym (ap (map start_of_result) f ∙ starts-are nodes ∙ e)) unissued-ascend
+  starts-ascend nodes results e f = subst (StrictlyAscends nat_cmp) (sym (ap (map start_of) f ∙ starts-are nodes ∙ e)) unissued-ascend
 
   -- ---- the results
 
-  pub results-are : (nodes : List ℕ) (results ordered : List HashPathResult) → nodes ≡ unissued_nodes ρ D c h → results ≡ map (result_of ρ D c) nodes → ordered ≡ sort_results results → ordered ≡ counted_results ρ D c h
-  results-are nodes results ordered e f g = g ∙ ap sort_results (f ∙ ap (map (result_of ρ D c)) e)
+  pub results-are : (nodes : List ℕ) (results sorted ordered : List HashPathResult) → nodes ≡ unissued_nodes ρ D c h → results ≡ map (result_of ρ D c) nodes → sorted ≡ sort_results results
+      → ordered ≡ sorted → ordered ≡ counted_results ρ D c h
+  results-are nodes results sorted ordered e f g same = same ∙ g ∙ ap sort_results (f ∙ ap (map (result_of ρ D c)) e)
 
   results-length : length (counted_results ρ D c h) ≡ length (unissued_nodes ρ D c h)
   results-length = sym (length-Permutes (sort_results-permutes (map (result_of ρ D c) (unissued_nodes ρ D c h)))) ∙ length-map (unissued_nodes ρ D c h) (result_of ρ D c)
@@ -79,17 +86,12 @@ module _ (ρ : Hashing) (D : Dataset) (valid : IsValid D) (c : List ℕ) (k : Ar
   pub class-canonical : IsCanonicalSoFar D (run_of_class ρ D h c).value
   class-canonical = so_far-canonical D _ (counted_results-canonical ρ D valid c k h)
 
-  pub class-units : (nodes : List ℕ) → nodes ≡ unissued_nodes ρ D c h → (trace_of_starts ρ D c nodes).units ≡ (run_of_class ρ D h c).trace.units
-  class-units nodes e =
-      let all : ((trace_of_starts ρ D c (unissued_nodes ρ D c h)).units + 0) + 0 ≡ (run_of_class ρ D h c).trace.units = refl in
-      let same = ap (λ ns. (trace_of_starts ρ D c ns).units) e in
-      omega arith
-
-  pub class-logs : (nodes : List ℕ) (ordered : List HashPathResult) (old mid new : LoggedTies) → nodes ≡ unissued_nodes ρ D c h → ordered ≡ counted_results ρ D c h → LogsAll D (trace_of_starts ρ D c nodes).ties old mid → LogsInTurn D (ties_of_results c ordered) mid new
+  pub class-logs : (nodes : List ℕ) (ordered : List HashPathResult) (old mid new : LoggedTies) → nodes ≡ unissued_nodes ρ D c h → ordered ≡ counted_results ρ D c h
+      → LogsAll D (trace_of_starts ρ D c nodes).ties old mid → LogsInTurn D (ties_of_results c ordered) mid new
       → LogsAll D (run_of_class ρ D h c).trace.ties old new
   class-logs nodes ordered old mid new e f l m =
       let starts = (trace_of_starts ρ D c (unissued_nodes ρ D c h)).ties in
       let own = ties_of_results c (counted_results ρ D c h) in
       let first : LogsAll D starts old mid = subst (λ ns. LogsAll D (trace_of_starts ρ D c ns).ties old mid) e l in
       let second : LogsAll D own mid new = logs-all D own mid new (subst (λ rs. LogsInTurn D (ties_of_results c rs) mid new) f m) in
-      subst (λ ts. LogsAll D ts old new) (sym (append-nil (starts ++ own))) (logs-append D starts own old mid new first second)
+      subst (λ ts. LogsAll D ts old new) (sym (append-nil (starts ++ own))) (logs_all-append D starts own old mid new first second)

@@ -1,10 +1,9 @@
 -- All nodes in the order of their hashes, and those that are alone.
 use Rattle.std.proofs.Common.{◌≡◌, ℕ, ◌<◌, ◌≤◌, All, List, [], get_or, length, map, sym, ap, ◌∙◌, subst, arith}
 use Rattle.std.specs.List.{flat_map}
-use Rattle.rdf_terms.specs.Dataset.{Dataset}
-use Rattle.rdf_terms.specs.Lists.{In, Permutes, Text, numbers_below}
+use Rattle.rdf_terms.proofs.Common.{Dataset, In, Permutes, Text, numbers_below, In-get_or}
 use Rattle.canon_model.specs.Allowed.{issued_for_unique_hashes, nodes_with_hash, single}
-use Rattle.canon_model.specs.CountedRun.{counted_hashes, counted_run, nothing}
+use Rattle.canon_model.specs.CountedRun.{counted_run, nothing}
 use Rattle.canon_model.specs.FirstDegree.{hash_first_degree_quads}
 use Rattle.canon_model.specs.Hashing.{Hashing}
 use Rattle.canon_model.specs.Issuer.{issue_each}
@@ -15,7 +14,6 @@ use Rattle.canon_core.proofs.AloneNodes.{alone-below, run-alone}
 use Rattle.canon_core.proofs.AloneSoFar.{alone_in}
 use Rattle.canon_core.proofs.OneClass.{so_far-canonical}
 use Rattle.canon_core.proofs.RankedNodes.{hashes-are, paired, permutes-table, ranked-all}
-use Rattle.rdf_terms.proofs.MadeLists.{In-get_or}
 
 module _ (ρ : Hashing) (D : Dataset) where
   pub in-hash-order : (hashes : List Text) (count : ℕ) (nodes : List (Text × ℕ)) → hashes ≡ map (hash_first_degree_quads ρ D) (numbers_below D.nodes) → count ≡ D.nodes
@@ -39,9 +37,7 @@ module _ (ρ : Hashing) (D : Dataset) where
   pub unique-so-far : (c alone : List ℕ) → alone ≡ alone_under_hashes ρ D → c ≡ issue_each [] alone → IsCanonicalSoFar D c
   unique-so-far c alone e f = subst (IsCanonicalSoFar D) (sym (f ∙ ap (issue_each []) e)) (so_far-canonical D (issued_for_unique_hashes ρ D) (unique_hashes-canonical ρ D))
 
-  pub whole-run : (nodes : List (Text × ℕ)) (c alone : List ℕ) → IsInHashOrder ρ D nodes → alone ≡ alone_under_hashes ρ D → c ≡ issue_each [] alone → run_from ρ D nodes c ≡ counted_run ρ D
-  whole-run nodes c alone o e f = (λ i. counted_hashes ρ D (o.hashes i) ((f ∙ ap (issue_each []) e) i))
-
   -- the order is found, and where the nodes that are alone are all, they are the whole run
-  pub run-of-alone : (nodes : List (Text × ℕ)) (alone : List ℕ) → IsInHashOrder ρ D nodes → alone ≡ alone_in (hash_first_degree_quads ρ D) D.nodes nodes → length alone ≡ D.nodes → counted_run ρ D ≡ record { trace = nothing; value = alone }
+  pub run-of-alone : (nodes : List (Text × ℕ)) (alone : List ℕ) → IsInHashOrder ρ D nodes → alone ≡ alone_in (hash_first_degree_quads ρ D) D.nodes nodes → length alone ≡ D.nodes
+      → counted_run ρ D ≡ record { trace = nothing; value = alone }
   run-of-alone nodes alone o e l = run-alone ρ D alone (alone-are nodes alone o e) l

@@ -1,4 +1,5 @@
 -- All nodes in the order of their hashes are whole classes, whose hashes are those of the dataset in order.
+use Rattle.canon_model.specs.Allowed.{start_of}
 use Rattle.std.proofs.Common.{◌≡◌, ℕ, ◌<◌, List, [], ◌∷◌, map, length, nat_cmp, inl, refl, sym, ap, ◌∙◌, subst, arith, Equal, Ordering, Less, Greater}
 use Rattle.std.specs.Cmp.{IsTotalOrder}
 use Rattle.std.specs.Cmp.Lexicographic.{slice_cmp}
@@ -6,18 +7,12 @@ use Rattle.std.specs.Ordering.{ordering_then}
 use Rattle.std.specs.List.Sorted.{IsSorted}
 use Rattle.std.proofs.lemmas.Cmp.{nat_cmp_total, nat_list_cmp_total, on_total, then_total, ranked}
 use Rattle.std.proofs.lemmas.List.{get_or-map}
-use Rattle.rdf_terms.specs.Lists.{In, Permutes, Text, numbers_below, permutes_trans, sorted}
-use Rattle.rdf_terms.proofs.Membership.{In-map, from_In-map}
-use Rattle.rdf_terms.proofs.Permutations.{AreDistinct-Permutes, In-Permutes, Permutes-from_equal, Permutes-map, Permutes-sym}
-use Rattle.rdf_terms.proofs.Ranks.{AreDistinct-numbers_below, from_In-numbers_below, get_or-numbers_below, length-numbers_below, map-numbers_below, In-numbers_below as In_from_below}
-use Rattle.rdf_terms.proofs.SortedTexts.{Ascends, sorted-Ascends, sorted-Permutes}
-use Rattle.rdf_terms.proofs.TextOrder.{is_at_most-from_not_before}
+use Rattle.rdf_terms.proofs.Common.{In, Permutes, Text, numbers_below, permutes_trans, sorted, In-map, from_In-map, AreDistinct-Permutes, In-Permutes, Permutes-from_equal, Permutes-map, Permutes-sym, AreDistinct-numbers_below, from_In-numbers_below, get_or-numbers_below, length-numbers_below, map-numbers_below, In-numbers_below as In_from_below, Ascends, sorted-Ascends, sorted-Permutes, is_at_most-from_not_before, map-map}
 use Rattle.canon_model.specs.Groups.{each_text_once}
 use Rattle.canon_model.proofs.Maps.{map_identity}
-use Rattle.canon_core.specs.HashOrder.{IsRanked, StrictlyAscends, hash_in, hash_of, node_of, node_cmp, result_cmp, hash_of_result, start_of_result}
+use Rattle.canon_core.specs.HashOrder.{IsRanked, StrictlyAscends, hash_in, hash_of, node_of, node_cmp, result_cmp, hash_of_result}
 use Rattle.canon_core.proofs.Ascending.{ascends_from_sort}
 use Rattle.canon_core.proofs.ClassSplit.{hash_not_before}
-use Rattle.rdf_terms.proofs.MadeLists.{map-map}
 
 abbrev pub paired : (ℕ → Text) → ℕ → Text × ℕ
 paired hash n = (hash n, n)
@@ -26,7 +21,7 @@ pub node_cmp_total : IsTotalOrder node_cmp
 node_cmp_total = then_total (on_total hash_of nat_list_cmp_total) (on_total node_of nat_cmp_total)
 
 pub result_cmp_total : IsTotalOrder result_cmp
-result_cmp_total = then_total (on_total hash_of_result nat_list_cmp_total) (on_total start_of_result nat_cmp_total)
+result_cmp_total = then_total (on_total hash_of_result nat_list_cmp_total) (on_total start_of nat_cmp_total)
 
 -- two that tie have one number
 pub tied_numbers : (r : Ordering) (m n : ℕ) → ordering_then r (nat_cmp m n) ≡ Equal → m ≡ n
@@ -50,10 +45,12 @@ hash_in-map hash count n l =
     let k : n < length (numbers_below count) = omega (arith, length-numbers_below count) in
     get_or-map hash (numbers_below count) n 0 [] k ∙ ap hash (get_or-numbers_below count n l)
 
-pub permutes-table : (hash : ℕ → Text) (count : ℕ) (hashes : List Text) (nodes : List (Text × ℕ)) → hashes ≡ map hash (numbers_below count) → Permutes (map (λ n. (hash_in hashes n, n)) (numbers_below count)) nodes
+pub permutes-table : (hash : ℕ → Text) (count : ℕ) (hashes : List Text) (nodes : List (Text × ℕ)) → hashes ≡ map hash (numbers_below count)
+    → Permutes (map (λ n. (hash_in hashes n, n)) (numbers_below count)) nodes
     → Permutes (map (paired hash) (numbers_below count)) nodes
 permutes-table hash count hashes nodes table all =
-    permutes_trans (Permutes-from_equal (map-numbers_below (paired hash) (paired (hash_in hashes)) count (λ k l. ap (λ t. (t, k)) (sym (ap (λ hs. hash_in hs k) table ∙ hash_in-map hash count k l))))) all
+    permutes_trans
+    (Permutes-from_equal (map-numbers_below (paired hash) (paired (hash_in hashes)) count (λ k l. ap (λ t. (t, k)) (sym (ap (λ hs. hash_in hs k) table ∙ hash_in-map hash count k l))))) all
 
 -- ---- all nodes
 

@@ -5,13 +5,11 @@ use Rattle.std.specs.Cmp.Lexicographic.{slice_cmp}
 use Rattle.std.specs.Ordering.{is_gt, ordering_reverse, ordering_then}
 use Rattle.std.specs.List.Sorted.{IsSorted}
 use Rattle.std.proofs.lemmas.Cmp.{nat_cmp_total, nat_list_cmp_total, ranked}
-use Rattle.rdf_terms.specs.Lists.{AreDistinct, In, Permutes, is_at_most}
-use Rattle.rdf_terms.proofs.Membership.{In-map}
-use Rattle.rdf_terms.proofs.Permutations.{AreDistinct-Permutes, In-Permutes, Permutes-map, Permutes-sym}
-use Rattle.canon_model.specs.Allowed.{HashPathResult}
+use Rattle.rdf_terms.proofs.Common.{AreDistinct, In, Permutes, is_at_most, In-map, AreDistinct-Permutes, In-Permutes, Permutes-map, Permutes-sym}
+use Rattle.canon_model.specs.Allowed.{HashPathResult, start_of}
 use Rattle.canon_model.specs.CountedRun.{insert_result, sort_results}
 use Rattle.canon_model.proofs.SortedResults.{sort_results-permutes, from_In-insert_result}
-use Rattle.canon_core.specs.HashOrder.{StrictlyAscends, result_cmp, start_of_result}
+use Rattle.canon_core.specs.HashOrder.{StrictlyAscends, result_cmp}
 use Rattle.canon_core.specs.Results.{StartsAscend}
 use Rattle.canon_core.proofs.Ascending.{ascends_from_sort, nat_cmp-less, not_itself, same_ascending}
 use Rattle.canon_core.proofs.RankedNodes.{result_cmp_total, tied_numbers}
@@ -38,7 +36,8 @@ before_not_at_most r q e = by (slice_cmp nat_cmp r.hash q.hash) refl e
     by Equal d f = absurd (true≢false f)
     by Greater d f = ap (λ o. ordering_then o (nat_cmp q.start r.start)) (nat_list_cmp_total.antisymm q.hash r.hash ∙ ap ordering_reverse d)
 
-insert-ascends : (r : HashPathResult) (qs : List HashPathResult) → StrictlyAscends result_cmp qs → ((q : HashPathResult) → In q qs → r.start < q.start) → StrictlyAscends result_cmp (insert_result r qs)
+insert-ascends : (r : HashPathResult) (qs : List HashPathResult) → StrictlyAscends result_cmp qs → ((q : HashPathResult) → In q qs → r.start < q.start)
+    → StrictlyAscends result_cmp (insert_result r qs)
 insert-ascends r [] a low = (λ q h. absurd h, tt)
 insert-ascends r (q ∷ qs) a low = by (is_at_most r.hash q.hash) refl (insert-ascends r qs a.1 (λ s h. low s (inr h)))
   where
@@ -63,13 +62,13 @@ sort-ascends : (rs : List HashPathResult) → StartsAscend rs → StrictlyAscend
 sort-ascends [] a = tt
 sort-ascends (r ∷ rs) a =
     insert-ascends r (sort_results rs) (sort-ascends rs a.1)
-    (λ q h. ranked r.start q.start Less (sym (a.0 q.start (In-map start_of_result rs q (In-Permutes q (Permutes-sym (sort_results-permutes rs)) h)))))
+    (λ q h. ranked r.start q.start Less (sym (a.0 q.start (In-map start_of rs q (In-Permutes q (Permutes-sym (sort_results-permutes rs)) h)))))
 
 -- ---- what code's sort gives
 
 pub results-sorted : (rs qs : List HashPathResult) → StartsAscend rs → Permutes rs qs → IsSorted result_cmp qs → qs ≡ sort_results rs
 results-sorted rs qs a p up =
     same_ascending result_cmp result_cmp_total qs (sort_results rs)
-    (ascends_from_sort result_cmp result_cmp_total start_of_result (λ x y e. tied_numbers (slice_cmp nat_cmp x.hash y.hash) x.start y.start e) qs up
-    (AreDistinct-Permutes (Permutes-map start_of_result p) (AreDistinct-ascending nat_cmp nat_cmp_total (map start_of_result rs) a)))
+    (ascends_from_sort result_cmp result_cmp_total start_of (λ x y e. tied_numbers (slice_cmp nat_cmp x.hash y.hash) x.start y.start e) qs up
+    (AreDistinct-Permutes (Permutes-map start_of p) (AreDistinct-ascending nat_cmp nat_cmp_total (map start_of rs) a)))
     (sort-ascends rs a) (λ x h. In-Permutes x (sort_results-permutes rs) (In-Permutes x (Permutes-sym p) h)) (λ x h. In-Permutes x p (In-Permutes x (Permutes-sym (sort_results-permutes rs)) h))

@@ -12,7 +12,8 @@ use Rattle.ndegree_hash.specs.Log.{tie_of}
 use Rattle.ndegree_hash.specs.declared.tie.Tie.{Tie}
 use Rattle.canon_core.specs.declared.canon.Canon.{Canon}
 
--- The first tie of the counted run that is not joined: its two lists are those of outcomes that the standard does not tell apart, and no symmetry of the dataset that fixes the nodes issued before carries the one list to the other.
+-- The first tie of the counted run that is not joined: its two lists are those of outcomes that the standard does not
+-- tell apart, and no symmetry of the dataset that fixes the nodes issued before carries the one list to the other.
 pub record IsUnsettledBy (ρ : Hashing) (D : Dataset) (t : Tie) : Type 0 where
   pub first : IsFirstUnjoined D (ties_of_run ρ D) (tie_of t)
   pub tie : IsTie ρ D (tie_of t)

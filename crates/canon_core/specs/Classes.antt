@@ -1,7 +1,6 @@
 -- What is left of the counted run of a dataset when it comes to a class of nodes of one first-degree hash.
 use Rattle.std.specs.Prelude.{◌≡◌, ℕ, ◌<◌, List, [], ◌∷◌, map}
-use Rattle.rdf_terms.specs.Lists.{Text, In, AreDistinct}
-use Rattle.rdf_terms.specs.Dataset.{Dataset}
+use Rattle.rdf_terms.specs.Vocabulary.{Text, In, AreDistinct, Dataset}
 use Rattle.std.specs.List.{flat_map}
 use Rattle.canon_model.specs.Allowed.{first_degree_hashes, nodes_with_hash, single}
 use Rattle.canon_model.specs.FirstDegree.{hash_first_degree_quads}

@@ -1,4 +1,5 @@
--- Nodes in the order of their hashes, those of one hash in the order of their numbers, and the classes of nodes of one hash.
+-- Nodes in the order of their hashes, those of one hash in the order of their numbers, and the classes of nodes of one
+-- hash.
 use Rattle.std.specs.Prelude.{◌≡◌, ℕ, ◌<◌, if◌then◌else◌, List, [], ◌∷◌, filter, slice_index_or}
 use Rattle.std.specs.Ordering.{nat_cmp}
 use Rattle.std.specs.Cmp.Lexicographic.{slice_cmp}
@@ -7,7 +8,7 @@ use Rattle.std.specs.Str.{bytes_eq}
 use Rattle.std.specs.declared.cmp.Ordering.{Ordering}
 use Rattle.std.specs.declared.cmp.Ordering.TheVariants.{Less}
 use Rattle.rdf_terms.specs.Lists.{Text, In, numbers_below}
-use Rattle.canon_model.specs.Allowed.{HashPathResult}
+use Rattle.canon_model.specs.Allowed.{HashPathResult, start_of}
 
 -- the hash at the place of this node
 abbrev pub hash_in : List Text → ℕ → Text
@@ -21,18 +22,15 @@ hash_of p = p.0
 abbrev pub node_of : Text × ℕ → ℕ
 node_of p = p.1
 
--- by the hashes in code point order, and by the numbers where these are equal
+-- by the hashes in code point order, and within a class by the numbers
 abbrev pub node_cmp : Text × ℕ → Text × ℕ → Ordering
 node_cmp = then_cmp (on hash_of (slice_cmp nat_cmp)) (on node_of nat_cmp)
 
 abbrev pub hash_of_result : HashPathResult → Text
 hash_of_result r = r.hash
 
-abbrev pub start_of_result : HashPathResult → ℕ
-start_of_result r = r.start
-
 abbrev pub result_cmp : HashPathResult → HashPathResult → Ordering
-result_cmp = then_cmp (on hash_of_result (slice_cmp nat_cmp)) (on start_of_result nat_cmp)
+result_cmp = then_cmp (on hash_of_result (slice_cmp nat_cmp)) (on start_of nat_cmp)
 
 -- each is before all that stand behind it
 abbrev pub StrictlyAscends : {A : Type 0} → (A → A → Ordering) → List A → Type 0

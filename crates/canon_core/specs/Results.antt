@@ -1,13 +1,10 @@
 -- The results of the start nodes of a class, and their ties.
 use Rattle.std.specs.Prelude.{ℕ, List, [], ◌∷◌, map}
 use Rattle.std.specs.Ordering.{nat_cmp}
-use Rattle.rdf_terms.specs.Lists.{In}
 use Rattle.rdf_terms.specs.Dataset.{Dataset}
-use Rattle.canon_model.specs.Allowed.{HashPathResult}
-use Rattle.canon_model.specs.CountedRun.{Tie}
+use Rattle.canon_model.specs.Allowed.{HashPathResult, start_of}
 use Rattle.canon_model.specs.Issuer.{IsValidCall}
-use Rattle.canon_model.specs.Ties.{MayBeExchanged}
-use Rattle.canon_core.specs.HashOrder.{StrictlyAscends, start_of_result}
+use Rattle.canon_core.specs.HashOrder.{StrictlyAscends}
 
 -- a call from the node with a fresh issuer is valid
 abbrev pub MayStart : Dataset → List ℕ → ℕ → Type 0
@@ -15,8 +12,4 @@ MayStart D c n = IsValidCall D c n (n ∷ [])
 
 -- the start nodes ascend
 abbrev pub StartsAscend : List HashPathResult → Type 0
-StartsAscend results = StrictlyAscends nat_cmp (map start_of_result results)
-
--- the exchange of each of these ties may be checked
-abbrev pub MayBeLogged : Dataset → List Tie → Type 0
-MayBeLogged D ties = (t : Tie) → In t ties → MayBeExchanged D t.canonical t.passed t.left t.right
+StartsAscend results = StrictlyAscends nat_cmp (map start_of results)

@@ -22,7 +22,8 @@ use ndegree_hash::{Budget, Stop, TieLog};
 use rdf_terms::Prefix;
 use std::alloc::Global;
 
-// Issues canonical identifiers for the nodes that are alone under their hashes, and then by way of the other classes.
+// Issues canonical identifiers for the nodes that are alone under their hashes, and then by way of the other classes
+// (steps 4 and 5).
 fn order_from(
     alloc: Global,
     dataset: &Dataset,
@@ -53,7 +54,7 @@ fn order_from(
     Ok(issued_nodes(alloc, &canon)?)
 }
 
-/// The list of the canonical issuer (RDF Dataset Canonicalization, section 4.4, steps 3 to 5).
+// The list of the canonical issuer (RDF Dataset Canonicalization, section 4.4, steps 3 to 5).
 pub(crate) fn canonical_order(
     alloc: Global,
     dataset: &Dataset,

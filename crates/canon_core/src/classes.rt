@@ -38,13 +38,13 @@ fn issue_class(
     requires first { first.now ≡ map (hash_first_degree_quads (meaning profile) (dataset_of dataset.now)) (numbers_below (length dataset.now.labels)) }
     requires issued { IsCanonicalSoFar (dataset_of dataset.now) canon.old.list }
     requires canonical { canon.old.prefix ≡ Prefix.Canonical }
-    requires room { ties.old.total ≤ budget.old.spent }
+    requires few_ties { ties.old.total ≤ budget.old.spent }
     ensures list { OnOk result (canon.new.list ≡ (run_of_class (meaning profile) (dataset_of dataset.now) (class_hash class.now) canon.old.list).value) }
     ensures prefix { canon.new.prefix ≡ canon.old.prefix }
     ensures limit { budget.new.limit ≡ budget.old.limit }
     ensures spent { OnOk result (budget.new.spent ≡ budget.old.spent + (run_of_class (meaning profile) (dataset_of dataset.now) (class_hash class.now) canon.old.list).trace.units) }
     ensures ties { OnOk result (LogsAll (dataset_of dataset.now) (run_of_class (meaning profile) (dataset_of dataset.now) (class_hash class.now) canon.old.list).trace.ties ties.old ties.new) }
-    ensures room { OnOk result (ties.new.total ≤ budget.new.spent) }
+    ensures few_ties { OnOk result (ties.new.total ≤ budget.new.spent) }
     ensures over { result ≡ Err Stop.WorkLimit → budget.old.limit < budget.old.spent + (run_of_class (meaning profile) (dataset_of dataset.now) (class_hash class.now) canon.old.list).trace.units }
 {
     let _nodes = dataset.node_count();
@@ -58,7 +58,7 @@ fn issue_class(
     Ok(())
 }
 
-/// Issues canonical identifiers by way of each class in turn.
+// Issues canonical identifiers by way of each class in turn.
 pub(crate) fn issue_classes(
     alloc: Global,
     dataset: &Dataset,
@@ -73,7 +73,7 @@ pub(crate) fn issue_classes(
     requires first { first.now ≡ map (hash_first_degree_quads (meaning profile) (dataset_of dataset.now)) (numbers_below (length dataset.now.labels)) }
     requires issued { IsCanonicalSoFar (dataset_of dataset.now) canon.old.list }
     requires canonical { canon.old.prefix ≡ Prefix.Canonical }
-    requires room { ties.old.total ≤ budget.old.spent }
+    requires few_ties { ties.old.total ≤ budget.old.spent }
     ensures list { OnOk result (canon.new.list ≡ (run_from (meaning profile) (dataset_of dataset.now) nodes.now canon.old.list).value) }
     ensures limit { budget.new.limit ≡ budget.old.limit }
     ensures spent { OnOk result (budget.new.spent ≡ budget.old.spent + (run_from (meaning profile) (dataset_of dataset.now) nodes.now canon.old.list).trace.units) }

@@ -27,9 +27,9 @@ fn write_in_order(alloc: Global, dataset: &Dataset, order: &[u32]) -> Result<Byt
     write_sorted(alloc, dataset.terms(), dataset.quads(), &names)
 }
 
-/// The Canonicalization Algorithm (RDF Dataset Canonicalization, section 4.4): the canonical form of a dataset, and what
-/// the run counted on the way. One unit of the limit is one call of Hash N-Degree Quads or one permutation that is
-/// begun. After a stop nothing has changed.
+/// The Canonicalization Algorithm (RDF Dataset Canonicalization, section 4.4): the canonical form of a dataset, and
+/// what the run counted on the way. One unit of the limit is one call of Hash N-Degree Quads or one permutation that
+/// is begun. After a stop nothing has changed.
 pub fn canonicalise(
     alloc: Global,
     dataset: &Dataset,

@@ -8,7 +8,7 @@ use id_issuer::Issuer;
 use rdf_terms::NoMemory;
 use std::alloc::Global;
 
-/// Issues identifiers for these nodes in their order.
+// Issues identifiers for these nodes in their order.
 pub(crate) fn issue_all(issuer: &mut Issuer, nodes: &[u32]) -> Result<(), NoMemory>
     requires { All (λ n. n < u32.MAX) nodes.now }
     ensures list { OnOk result (issuer.new.list ≡ issue_each issuer.old.list nodes.now) }
@@ -20,8 +20,8 @@ pub(crate) fn issue_all(issuer: &mut Issuer, nodes: &[u32]) -> Result<(), NoMemo
     Ok(())
 }
 
-/// Issues identifiers for the nodes of each result, in the order of the results (RDF Dataset Canonicalization, section
-/// 4.4, step 5.3).
+// Issues identifiers for the nodes of each result, in the order of the results (RDF Dataset Canonicalization, section
+// 4.4, step 5.3).
 pub(crate) fn issue_results(canon: &mut Issuer, results: &[PathResult]) -> Result<(), NoMemory>
     requires { All (λ r. All (λ n. n < u32.MAX) r.issuer) results.now }
     ensures list { OnOk result (canon.new.list ≡ issued_results canon.old.list results.now) }
@@ -33,7 +33,7 @@ pub(crate) fn issue_results(canon: &mut Issuer, results: &[PathResult]) -> Resul
     Ok(())
 }
 
-/// The nodes that have an identifier, in the order in which they got it.
+// The nodes that have an identifier, in the order in which they got it.
 pub(crate) fn issued_nodes(alloc: Global, issuer: &Issuer) -> Result<Vec<u32>, NoMemory>
     ensures { IfOk result (λ nodes. nodes.items ≡ issuer.now.list) }
 {

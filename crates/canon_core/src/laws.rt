@@ -1,4 +1,5 @@
-//! What holds of the outputs that the algorithm may give, whatever computes them. Each law is a contract, and the functions do nothing.
+//! What holds of the outputs that the algorithm may give, whatever computes them. Each law is a
+//! contract, and the functions do nothing.
 ghost use Rattle.canon_core.specs.Outputs.{SharedOutput, UnjoinedGivesTwoOutputs};
 
 /// Two datasets with an allowed output in common are isomorphic, by a map that carries the one

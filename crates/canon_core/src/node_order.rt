@@ -1,4 +1,5 @@
-//! The nodes in the order of their hashes, class by class: a class is all nodes of one hash.
+//! The nodes in the order of their hashes, class by class: a class is all nodes of one hash (RDF Dataset
+//! Canonicalization, section 4.4, steps 3 and 4).
 ghost use Rattle.std.specs.Prelude.{◌≡◌, ◌<◌, ◌≤◌, ◌++◌, ℕ, length, map, drop, slice_range, IfOk, OnOk, IsSorted};
 ghost use Rattle.std.specs.List.{flat_map, prefix_len};
 ghost use Rattle.std.specs.Str.{bytes_eq};
@@ -36,8 +37,8 @@ fn sort(nodes: &mut Vec<HashedNode<'_>>)
     nodes.sort_unstable_by(|node, other| node.compare(other));
 }
 
-/// The nodes by their hashes, and by their numbers where these are equal. Each place has the hash of the node with this
-/// number.
+// The nodes by their hashes, those of one class by their numbers. Each place has the hash of the node with this
+// number.
 pub(crate) fn in_hash_order<'a>(
     alloc: Global,
     hashes: &'a [HexHash],
@@ -70,7 +71,7 @@ fn class_len(nodes: &[HashedNode<'_>]) -> usize
     1 + same_len(&nodes[1..], &nodes[0])
 }
 
-/// Where the class that begins at this place ends.
+// Where the class that begins at this place ends.
 pub(crate) fn class_end(nodes: &[HashedNode<'_>], start: usize) -> usize
     requires { start < length nodes.now }
     ensures after { start < result }
@@ -91,7 +92,7 @@ fn push_single(alone: &mut Vec<u32>, class: &[HashedNode<'_>]) -> Result<(), NoM
     Ok(())
 }
 
-/// The nodes that are alone in their class, in their order.
+// The nodes that are alone in their class, in their order.
 pub(crate) fn alone_nodes(alloc: Global, nodes: &[HashedNode<'_>]) -> Result<Vec<u32>, NoMemory>
     ensures { IfOk result (λ alone. (hash : ℕ → Text) (count : ℕ) → IsRanked hash count nodes.now →
         alone.items ≡ flat_map (λ h. single (nodes_under hash count h)) (each_text_once (map hash_of nodes.now))) }

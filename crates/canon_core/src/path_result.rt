@@ -10,8 +10,8 @@ use rdf_terms::NodeList;
 use std::cmp::Ordering;
 use std::marker::Model;
 
-/// What Hash N-Degree Quads gave for a start node (RDF Dataset Canonicalization, section 4.4, step 5.2): the hash, and
-/// the nodes that the issuer it returned has issued for.
+// What Hash N-Degree Quads gave for a start node (RDF Dataset Canonicalization, section 4.4, step 5.2): the hash, and
+// the nodes that the issuer it returned has issued for.
 #[derive(Drop)]
 pub(crate) struct PathResult {
     pub start: u32,
@@ -28,20 +28,20 @@ impl Model for PathResult {
 }
 
 impl PathResult {
-    /// The nodes of the returned issuer, in its order.
-    pub fn list(&self) -> &[u32]
+    // The nodes of the returned issuer, in its order.
+    pub(crate) fn list(&self) -> &[u32]
         ensures { result.now ≡ self.now.issuer }
     {
         self.list.as_slice()
     }
 
-    pub fn has_hash_of(&self, other: &Self) -> bool
+    pub(crate) fn has_hash_of(&self, other: &Self) -> bool
         ensures { result ≡ bytes_eq self.now.hash other.now.hash }
     {
         self.hash == other.hash
     }
 
-    // By the hashes, and by the start nodes where these are equal.
+    // By the hashes, tied ones by the start nodes.
     fn compare(&self, other: &Self) -> Ordering
         ensures { result ≡ result_cmp self.now other.now }
     {
@@ -51,8 +51,8 @@ impl PathResult {
     }
 }
 
-/// Puts results in the order of their hashes (section 4.4, step 5.3), those of one hash in the order of their start
-/// nodes, which is the one that they come in.
+// Puts results in the order of their hashes (section 4.4, step 5.3), tied ones in the order of their start nodes,
+// which is the one that they come in.
 pub(crate) fn sort_results(results: &mut Vec<PathResult>)
     requires { StartsAscend results.old.items }
     ensures { results.new.items ≡ sorted_results results.old.items }

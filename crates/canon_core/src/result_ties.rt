@@ -1,9 +1,9 @@
-//! The ties between results of one hash.
+//! The ties between results of one hash, which are tied.
 ghost use Rattle.std.specs.Prelude.{◌≡◌, ◌+◌, ◌≤◌, length, OnOk};
 ghost use Rattle.rdf_terms.specs.Document.{dataset as dataset_of};
 ghost use Rattle.canon_model.specs.CountedRun.{ties_of_results, ties_with};
 ghost use Rattle.ndegree_hash.specs.Log.{LogsInTurn};
-ghost use Rattle.canon_core.specs.Results.{MayBeLogged};
+ghost use Rattle.ndegree_hash.specs.OwedTies.{MayBeLogged};
 
 use crate::path_result::PathResult;
 use dataset_index::Dataset;
@@ -37,8 +37,8 @@ fn log_with(
     Ok(())
 }
 
-/// Logs the ties of results that stand in the order of their hashes: each but the first of one hash is a tie with the
-/// first.
+// Logs the ties of results that stand in the order of their hashes: each but the first of one hash is a tie with the
+// first.
 pub(crate) fn log_ties(
     alloc: Global,
     dataset: &Dataset,

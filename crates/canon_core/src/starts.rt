@@ -1,4 +1,5 @@
-//! Hash N-Degree Quads from each node of a class that has no canonical identifier.
+//! Hash N-Degree Quads from each node of a class that has no canonical identifier (RDF Dataset Canonicalization,
+//! section 4.4, step 5.2).
 ghost use Rattle.std.specs.Prelude.{◌≡◌, ◌+◌, ◌<◌, ◌≤◌, [], ◌∷◌, ◌++◌, length, map, filter, All, IfOk, OnOk};
 ghost use Rattle.rdf_terms.specs.Lists.{numbers_below};
 ghost use Rattle.rdf_terms.specs.Document.{dataset as dataset_of};
@@ -26,7 +27,7 @@ fn has_no_identifier(canon: &Issuer, node: u32) -> bool
     canon.id_of(node).is_none()
 }
 
-/// The nodes of the class that have no canonical identifier.
+// The nodes of the class that have no canonical identifier (step 5.2.1).
 pub(crate) fn unissued(
     alloc: Global,
     class: &[HashedNode<'_>],
@@ -43,7 +44,7 @@ pub(crate) fn unissued(
     Ok(nodes)
 }
 
-// The issuer of a new call: it has issued for the start node alone.
+// The issuer of a new call: it has issued for the start node alone (steps 5.2.2 and 5.2.3).
 fn fresh_issuer(alloc: Global, node: u32) -> Result<Issuer, NoMemory>
     requires { node < u32.MAX }
     ensures list { IfOk result (λ issuer. issuer.list ≡ node ∷ []) }
@@ -54,7 +55,7 @@ fn fresh_issuer(alloc: Global, node: u32) -> Result<Issuer, NoMemory>
     Ok(issuer)
 }
 
-// The result of one start node.
+// The result of one start node (step 5.2.4).
 fn result_from(
     alloc: Global,
     dataset: &Dataset,
@@ -68,7 +69,7 @@ fn result_from(
     requires start { MayStart (dataset_of dataset.now) canon.now.list node }
     requires first { first.now ≡ map (hash_first_degree_quads (meaning profile) (dataset_of dataset.now)) (numbers_below (length dataset.now.labels)) }
     requires canonical { canon.now.prefix ≡ Prefix.Canonical }
-    requires room { ties.old.total ≤ budget.old.spent }
+    requires few_ties { ties.old.total ≤ budget.old.spent }
     ensures is { IfOk result (λ r. r ≡ result_of (meaning profile) (dataset_of dataset.now) canon.now.list node) }
     ensures limit { budget.new.limit ≡ budget.old.limit }
     ensures spent { OnOk result (budget.new.spent ≡ budget.old.spent + (counted_start (meaning profile) (dataset_of dataset.now) canon.now.list node).trace.units) }
@@ -95,7 +96,7 @@ fn keep(results: &mut Vec<PathResult>, found: PathResult) -> Result<(), NoMemory
     Ok(())
 }
 
-/// The results of these start nodes, in their order.
+// The results of these start nodes, in their order.
 pub(crate) fn results_from(
     alloc: Global,
     dataset: &Dataset,
@@ -109,7 +110,7 @@ pub(crate) fn results_from(
     requires starts { All (MayStart (dataset_of dataset.now) canon.now.list) nodes.now }
     requires first { first.now ≡ map (hash_first_degree_quads (meaning profile) (dataset_of dataset.now)) (numbers_below (length dataset.now.labels)) }
     requires canonical { canon.now.prefix ≡ Prefix.Canonical }
-    requires room { ties.old.total ≤ budget.old.spent }
+    requires few_ties { ties.old.total ≤ budget.old.spent }
     ensures are { IfOk result (λ results. results.items ≡ map (result_of (meaning profile) (dataset_of dataset.now) canon.now.list) nodes.now) }
     ensures limit { budget.new.limit ≡ budget.old.limit }
     ensures spent { OnOk result (budget.new.spent ≡ budget.old.spent + (trace_of_starts (meaning profile) (dataset_of dataset.now) canon.now.list nodes.now).units) }

@@ -5,11 +5,7 @@ use Rattle.std.specs.List.{zip}
 use Rattle.std.specs.List.Sorted.{IsPermutation, IsSorted}
 use Rattle.std.specs.Ordering.{ordering_then}
 use Rattle.std.proofs.lemmas.Cmp.{nat_cmp_total, on_total, ranked, then_total}
-use Rattle.rdf_terms.specs.Dataset.{Dataset}
-use Rattle.rdf_terms.specs.Isomorphism.{AreIsomorphic}
-use Rattle.rdf_terms.specs.Lists.{AreDistinct, In, Permutes, numbers_below}
-use Rattle.rdf_terms.proofs.Membership.{In-map, from_In-map}
-use Rattle.rdf_terms.proofs.Permutations.{AreDistinct-Permutes, In-Permutes, Permutes-from_IsPermutation, Permutes-map, Permutes-sym}
+use Rattle.rdf_terms.proofs.Common.{Dataset, AreIsomorphic, AreDistinct, In, Permutes, numbers_below, In-map, from_In-map, AreDistinct-Permutes, In-Permutes, Permutes-from_IsPermutation, Permutes-map, Permutes-sym, map-map, from_In-numbers_below, In-numbers_below}
 use Rattle.canonical_writer.specs.Determined.{CarriesLists, ListsNodes}
 use Rattle.canon_model.specs.Allowed.{canonical_form}
 use Rattle.canon_model.specs.Hashing.{Hashing}
@@ -27,8 +23,6 @@ use Rattle.canon_core.proofs.TwoOutputs.{shared_output}
 use Rattle.iso_compare.specs.Comparison.{AreApart, AreDifferent, AreSame, AreUndecided, IsVerdict}
 use Rattle.iso_compare.specs.Pairs.{first_of, pair_cmp, second_of}
 use Rattle.iso_compare.specs.declared.verdict.Verdict.{Verdict}
-use Rattle.rdf_terms.proofs.MadeLists.{map-map}
-use Rattle.rdf_terms.proofs.Ranks.{from_In-numbers_below, In-numbers_below}
 
 pair_cmp_total : IsTotalOrder pair_cmp
 pair_cmp_total = then_total (on_total first_of nat_cmp_total) (on_total second_of nat_cmp_total)
@@ -62,10 +56,12 @@ tied_firsts m n o e = by (nat_cmp m n) refl e
     by Greater f g = cc
 
 -- the pairs of a list of all nodes, sorted, are all nodes in order
-pairs-in_order : (σ : ℕ → ℕ) (nodes : ℕ) (c : List ℕ) (pairs : List (ℕ × ℕ)) → ListsNodes nodes c → Permutes (map (λ n. (n, σ n)) c) pairs → IsSorted pair_cmp pairs → pairs ≡ map (λ n. (n, σ n)) (numbers_below nodes)
+pairs-in_order : (σ : ℕ → ℕ) (nodes : ℕ) (c : List ℕ) (pairs : List (ℕ × ℕ)) → ListsNodes nodes c → Permutes (map (λ n. (n, σ n)) c) pairs → IsSorted pair_cmp pairs
+    → pairs ≡ map (λ n. (n, σ n)) (numbers_below nodes)
 pairs-in_order σ nodes c pairs l p up =
     same_ascending pair_cmp pair_cmp_total pairs (map (λ n. (n, σ n)) (numbers_below nodes))
-    (ascends_from_sort pair_cmp pair_cmp_total first_of (λ x y e. tied_firsts x.0 y.0 (nat_cmp x.1 y.1) e) pairs up (AreDistinct-Permutes (Permutes-map first_of p) (subst AreDistinct (sym (firsts-are σ c)) l.distinct)))
+    (ascends_from_sort pair_cmp pair_cmp_total first_of (λ x y e. tied_firsts x.0 y.0 (nat_cmp x.1 y.1) e) pairs up
+    (AreDistinct-Permutes (Permutes-map first_of p) (subst AreDistinct (sym (firsts-are σ c)) l.distinct)))
     (ascends-pairs σ (numbers_below nodes) (StrictlyAscends-numbers_below nodes))
     (λ x h.
     let f = from_In-map (λ n. (n, σ n)) c x (In-Permutes x (Permutes-sym p) h) in
@@ -89,7 +85,8 @@ module _ (ρ : Hashing) (A B : Dataset) (first second : Canon) (k : IsCanon ρ A
   pub same-forms : first.bytes ≡ second.bytes → (pairs : List (ℕ × ℕ)) → IsPermutation (zip first.order second.order) pairs → IsSorted pair_cmp pairs → AreSame ρ A B pairs
   same-forms e pairs p up =
       let t = carried e in
-      let all : Permutes (map (λ n. (n, t.relabelling.to n)) first.order) pairs = subst (λ w. Permutes w pairs) (ap (zip first.order) (sym t.lists) ∙ zip-map t.relabelling.to first.order) (Permutes-from_IsPermutation (zip first.order second.order) pairs p) in
+      let all : Permutes (map (λ n. (n, t.relabelling.to n)) first.order) pairs = subst (λ w. Permutes w pairs) (ap (zip first.order) (sym t.lists) ∙ zip-map t.relabelling.to first.order)
+      (Permutes-from_IsPermutation (zip first.order second.order) pairs p) in
       record {
         bytes_equal = sym k.bytes.chosen ∙ e ∙ l.bytes.chosen;
         bijection = record { relabelling = t.relabelling; carries = t.carries; pairs_are = pairs-in_order t.relabelling.to A.nodes first.order pairs first-lists all up };

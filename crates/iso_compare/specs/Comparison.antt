@@ -1,8 +1,6 @@
 -- What a comparison of two datasets answers.
 use Rattle.std.specs.Prelude.{◌≡◌, ℕ, ◌⊎◌, List, map, Option, Some, None}
-use Rattle.rdf_terms.specs.Lists.{numbers_below}
-use Rattle.rdf_terms.specs.Dataset.{Dataset}
-use Rattle.rdf_terms.specs.Isomorphism.{Relabelling, Carries, AreIsomorphic}
+use Rattle.rdf_terms.specs.Vocabulary.{numbers_below, Dataset, Relabelling, Carries, AreIsomorphic}
 use Rattle.canon_model.specs.Hashing.{Hashing}
 use Rattle.canon_model.specs.JoinedTies.{IsSettled}
 use Rattle.canon_model.specs.Output.{chosen_form, PassesLimit}
@@ -11,7 +9,8 @@ use Rattle.canon_core.specs.Canonical.{IsUnsettledBy}
 use Rattle.iso_compare.specs.declared.verdict.Verdict.{Verdict}
 use Rattle.iso_compare.specs.declared.verdict.Verdict.TheVariants.{Same, Different, Undecided}
 
--- an isomorphism (RDF 1.1 Concepts, section 4.1) by its pairs: every node of A in order, each with the node of B that it is carried to
+-- an isomorphism (RDF 1.1 Concepts, section 4.1) by its pairs: every node of A in order, each with the node of B that
+-- it is carried to
 pub record IsBijection (A B : Dataset) (pairs : List (ℕ × ℕ)) : Type 0 where
   pub relabelling : Relabelling A.nodes
   pub carries : Carries relabelling.to A B

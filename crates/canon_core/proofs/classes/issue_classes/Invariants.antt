@@ -14,9 +14,10 @@ invariant-loop-start l = record {
   ranked : IsRanked (hash_first_degree_quads (meaning l.profile) (dataset l.dataset)) (length l.dataset.labels) (drop l.start l.nodes);
   issued : IsCanonicalSoFar (dataset l.dataset) l.canon.list;
   prefix : l.canon.prefix ≡ Canonical;
-  room : l.ties.total ≤ l.budget.spent;
+  few_ties : l.ties.total ≤ l.budget.spent;
   limit : l.budget.limit ≡ l.fn.budget.limit;
-  way : IsOnTheWay (dataset l.dataset) (run_from (meaning l.profile) (dataset l.dataset) l.nodes l.fn.canon.list) (run_from (meaning l.profile) (dataset l.dataset) (drop l.start l.nodes) l.canon.list) l.fn.budget.spent l.budget.spent l.fn.ties l.ties;
+  way : IsOnTheWay (dataset l.dataset) (run_from (meaning l.profile) (dataset l.dataset) l.nodes l.fn.canon.list)
+      (run_from (meaning l.profile) (dataset l.dataset) (drop l.start l.nodes) l.canon.list) l.fn.budget.spent l.budget.spent l.fn.ties l.ties;
 }
 
 abbrev pub decreases-loop-start : goal.decreases-loop-start

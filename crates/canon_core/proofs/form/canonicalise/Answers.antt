@@ -13,5 +13,6 @@ pub returns-clause-canon : goal.returns-clause-canon
 returns-clause-canon c =
     let D = dataset_of c.args.dataset.now in
     canon-from_run (meaning c.args.profile) D c.node_count-nodes.ensures.valid _ c.new-ties.result c.canonical_order.new.ties (c.new.ensures ∙ c.in_ok-order.ensures.order)
-    (c.in_ok-bytes.ensures ∙ ap (canonical_form D) (c.deref.ensures.value ∙ sym c.new.ensures)) (c.spent.ensures.spent ∙ c.in_ok-order.ensures.spent) c.total.ensures.total c.joined.ensures.joined c.into_unsettled.ensures.unsettled
+    (c.in_ok-bytes.ensures ∙ ap (canonical_form D) (c.deref.ensures.value ∙ sym c.new.ensures))
+    (c.spent.ensures.spent ∙ c.in_ok-order.ensures.spent) c.total.ensures.total c.joined.ensures.joined c.into_unsettled.ensures.unsettled
     c.new-ties.ensures.total c.new-ties.ensures.joined c.new-ties.ensures.unsettled c.in_ok-order.ensures.ties

@@ -8,5 +8,6 @@ pub write_sorted-requires-clause-named : goal.write_sorted-requires-clause-named
 write_sorted-requires-clause-named c =
     let nodes = length c.args.dataset.now.labels in
     let name = issued_name Canonical c.args.order.now in
-    let named = All-HasNames-valid nodes name (λ n l. IsSome-issued_name Canonical c.args.order.now n ((c.requires.order.all n).1 l)) c.args.dataset.now.terms c.args.dataset.now.quads c.requires.valid.valid in
+    let named = All-HasNames-valid nodes name (λ n l. IsSome-issued_name Canonical c.args.order.now n
+    ((c.requires.order.all n).1 l)) c.args.dataset.now.terms c.args.dataset.now.quads c.requires.valid.valid in
     rw (c.in_ok-names.ensures, c.terms.ensures.terms, c.quads.ensures.quads) named

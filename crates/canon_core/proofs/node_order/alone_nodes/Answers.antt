@@ -11,6 +11,7 @@ loop-start-preserved c =
     record {
       within = end.ensures.within;
       alone = λ hash count r.
-          alone-next hash count nodes c.loop-start.alone.items c.push_single.new.alone.items (drop start nodes) (slice_range nodes start end.result) (drop end.result nodes) (some_behind nodes start c.loop-start-test.true)
+          alone-next hash count nodes c.loop-start.alone.items c.push_single.new.alone.items (drop start nodes) (slice_range nodes start end.result) (drop end.result nodes)
+          (some_behind nodes start c.loop-start-test.true)
           end.ensures.class end.ensures.behind c.in_ok-push_single.ensures (c.loop-start.invariant.alone hash count r);
     }

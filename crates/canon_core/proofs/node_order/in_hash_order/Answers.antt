@@ -1,6 +1,5 @@
 use Rattle.std.proofs.Common.{sym}
-use Rattle.rdf_terms.specs.Lists.{permutes_trans}
-use Rattle.rdf_terms.proofs.Permutations.{Permutes-from_equal}
+use Rattle.rdf_terms.proofs.Common.{permutes_trans, Permutes-from_equal}
 use Rattle.canon_core.specs.HashOrder.{hash_in}
 use Rattle.canon_core.proofs.RankedNodes.{ascends-sorted}
 use Rattle.canon_core.proofs.node_order.in_hash_order.Goals as goal

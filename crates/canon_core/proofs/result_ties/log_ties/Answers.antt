@@ -1,6 +1,6 @@
 use Rattle.std.proofs.Common.{subst}
 use Rattle.rdf_terms.specs.Document.{dataset as dataset_of}
-use Rattle.canon_core.specs.Results.{MayBeLogged}
+use Rattle.ndegree_hash.specs.OwedTies.{MayBeLogged}
 use Rattle.canon_core.proofs.LoggingResults.{ties-first}
 use Rattle.canon_core.proofs.result_ties.log_ties.Goals as goal
 
