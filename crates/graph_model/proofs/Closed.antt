@@ -1,19 +1,8 @@
 -- The end of a walk is a closed set of nodes.
-use Rattle.std.proofs.Common.{◌≡◌, ℕ, ◌<◌, ◌⊎◌, List, [], ◌∷◌, ◌++◌, refl, sym, ap, subst, inl, inr, arith, append_assoc}
-use Rattle.rdf_terms.specs.Lists.{In}
-use Rattle.rdf_terms.specs.Terms.{Statement}
-use Rattle.std.proofs.lemmas.Bool.{cases_eq}
+use Rattle.std.proofs.Common.{◌≡◌, ℕ, ◌⊎◌, List, [], ◌∷◌, ◌++◌, sym, subst, inl, inr, append_assoc}
+use Rattle.rdf_terms.proofs.Common.{In, Statement, decide_in}
 use Rattle.std.proofs.lemmas.List.{append-nil}
 use Rattle.graph_model.specs.Components.{MayFollow, WalksOn, IsComponentWalk, IsClosed}
-
-pub decide_in : (n : ℕ) (xs : List ℕ) → In n xs ⊎ (¬ (In n xs))
-decide_in n [] = inr (λ h. h)
-decide_in n (x ∷ xs) = by (cases_eq n x) (decide_in n xs)
-  where
-    by : (n ≡ x) ⊎ (n ≡ x → ⊥) → In n xs ⊎ (¬ (In n xs)) → In n (x ∷ xs) ⊎ (¬ (In n (x ∷ xs)))
-    by (inl e) d = inl (inl e)
-    by (inr o) (inl h) = inl (inr h)
-    by (inr o) (inr m) = inr (λ h. elim h [ inl e ↦ o e | inr i ↦ m i ])
 
 -- nothing follows the whole of a walk
 pub ended : (G : List Statement) (taken rest : List ℕ) → WalksOn G taken rest → (y : ℕ) → ¬ (MayFollow G (taken ++ rest) y)

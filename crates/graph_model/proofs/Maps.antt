@@ -1,13 +1,10 @@
 -- Maps of terms: equal where they agree on the nodes of a triple, and one after the other.
-use Rattle.std.proofs.Common.{◌≡◌, ℕ, ◌⊎◌, Bool, true, false, ◌||◌, ◌==◌, List, refl, sym, ap, ◌∙◌, subst, inl, inr, true≢false, eq-eqb}
-use Rattle.rdf_terms.specs.Lists.{In}
-use Rattle.rdf_terms.specs.Terms.{Statement}
-use Rattle.rdf_terms.specs.Dataset.{mentions, is_node, is_named_by}
+use Rattle.std.proofs.Common.{◌≡◌, ℕ, true, ◌||◌, ◌==◌, List, refl, sym, ap, ◌∙◌, subst, eq-eqb}
+use Rattle.rdf_terms.proofs.Common.{In, Statement, mentions, is_node, is_named_by, In-map, from_In-map}
 use Rattle.rdf_terms.specs.declared.term.Term.{Term}
 use Rattle.rdf_terms.specs.declared.term.Term.TheVariants.{Iri, Blank, Literal}
-use Rattle.rdf_terms.proofs.Membership.{In-map, from_In-map}
 use Rattle.graph_model.specs.Graphs.{mapped, mapped_triple, composed, CarriesInto, IsInstance, IsLean, IsProperPart, IsReached}
-use Rattle.std.proofs.lemmas.Bool.{or_left, or_right, or_cases}
+use Rattle.std.proofs.lemmas.Bool.{or_left, or_right}
 use Rattle.graph_model.specs.Laws.{IsShrunk}
 
 pub eqb-itself : (n : ℕ) → (n == n) ≡ true

@@ -1,10 +1,9 @@
 -- Maps of blank nodes to terms, and what they make of a graph: instances, endomorphisms, lean graphs (RDF 1.1
 -- Semantics, section 4).
 use Rattle.std.specs.Prelude.{◌≡◌, ℕ, List, map, All, None}
-use Rattle.rdf_terms.specs.Lists.{In, AreDistinct}
-use Rattle.rdf_terms.specs.Terms.{Statement}
+use Rattle.rdf_terms.specs.Vocabulary.{In, AreDistinct, Statement}
 use Rattle.rdf_terms.specs.declared.term.Term.{Term}
-use Rattle.rdf_terms.specs.declared.term.Term.TheVariants.{Iri, Blank, Literal}
+use Rattle.rdf_terms.specs.declared.term.Term.TheVariants.{Blank}
 
 -- a graph (RDF 1.1 Concepts, section 3): no quad has a graph name
 abbrev pub IsGraph : List Statement → Type 0
@@ -13,13 +12,18 @@ IsGraph triples = All (λ st. st.graph_name ≡ None) triples
 -- ---- maps of blank nodes to terms
 
 abbrev pub mapped : (ℕ → Term) → Term → Term
-mapped μ (Iri t) = Iri t
 mapped μ (Blank n) = μ n
-mapped μ (Literal l) = Literal l
+mapped μ t = t
 
 -- a predicate is an IRI, which every map keeps
 abbrev pub mapped_triple : (ℕ → Term) → Statement → Statement
-mapped_triple μ st = record { subject = mapped μ st.subject; predicate = st.predicate; object = mapped μ st.object; graph_name = st.graph_name }
+mapped_triple μ st =
+    record {
+      subject = mapped μ st.subject;
+      predicate = st.predicate;
+      object = mapped μ st.object;
+      graph_name = st.graph_name;
+    }
 
 -- the first map, and then the second
 abbrev pub composed : (ℕ → Term) → (ℕ → Term) → ℕ → Term

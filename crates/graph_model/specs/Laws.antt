@@ -1,8 +1,6 @@
 -- Statements of the laws.
 use Rattle.std.specs.Prelude.{◌≡◌, ℕ, ◌<◌, ◌↔◌, true, List}
-use Rattle.rdf_terms.specs.Lists.{In}
-use Rattle.rdf_terms.specs.Terms.{Statement}
-use Rattle.rdf_terms.specs.Dataset.{mentions}
+use Rattle.rdf_terms.specs.Vocabulary.{In, Statement, mentions}
 use Rattle.rdf_terms.specs.declared.term.Term.{Term}
 use Rattle.graph_model.specs.Graphs.{composed, CarriesInto, IsEndomorphism, IsImage, IsInstance, IsProperPart, IsReached, IsLean, LiesWithin}
 use Rattle.graph_model.specs.Components.{IsComponentWalk, IsClosed, IsMapOf, IsTight, IsTripleOf}
@@ -76,7 +74,9 @@ pub record IsSettled (G : List Statement) (limit : ℕ) (nodes : List ℕ) : Typ
 
 -- a settled set of nodes stays settled when a map of other nodes shrinks the graph
 abbrev pub SettledStaysSettled : Type 0
-SettledStaysSettled = (G I : List Statement) (limit : ℕ) (walk nodes : List ℕ) (ν : ℕ → Term) → IsMapOf G walk ν → IsImage ν G I → ((n : ℕ) → In n nodes → ¬ (In n walk)) → IsSettled G limit nodes → IsSettled I limit nodes
+SettledStaysSettled =
+    (G I : List Statement) (limit : ℕ) (walk nodes : List ℕ) (ν : ℕ → Term) → IsMapOf G walk ν → IsImage ν G I
+    → ((n : ℕ) → In n nodes → ¬ (In n walk)) → IsSettled G limit nodes → IsSettled I limit nodes
 
 -- more different partial maps than the limit are told exactly where the count is above it
 abbrev pub CountIsMore : Type 0

@@ -1,31 +1,26 @@
 -- From maps of term numbers to maps of nodes to terms, and back.
-use Rattle.std.proofs.Common.{◌≡◌, ℕ, zero, suc, ◌<◌, ◌≤◌, ◌⊎◌, ◌↔◌, ◌==◌, Bool, true, false, if◌then◌else◌, List, [], ◌∷◌, length, map, take, get_or, Option, Some, None, refl, sym, ap, ◌∙◌, subst, inl, inr, arith, true≢false}
+use Rattle.std.proofs.Common.{◌≡◌, ℕ, zero, suc, ◌<◌, ◌≤◌, ◌⊎◌, ◌↔◌, ◌==◌, Bool, true, false, if◌then◌else◌, List, [], ◌∷◌, length, map, take, get_or, Some, refl, sym, ap, ◌∙◌, subst, inl, inr, arith, true≢false}
 use Rattle.std.specs.List.{All}
 use Rattle.std.proofs.lemmas.Bool.{eqb-true}
-use Rattle.std.proofs.lemmas.List.{length-map}
+use Rattle.std.proofs.lemmas.List.{length-map, length-take-le, get_or_default, get_or_past, take-map}
 use Rattle.std.proofs.lemmas.Option.{slice_get-get_or, slice_get_within, get_or_from_slice_get}
-use Rattle.rdf_terms.specs.Lists.{In, AreDistinct}
-use Rattle.rdf_terms.specs.Terms.{Statement}
-use Rattle.rdf_terms.specs.Dataset.{mentions, is_node, is_named_by}
-use Rattle.rdf_terms.specs.Document.{statement, term_at, graph_name_at, IsInRange}
+use Rattle.rdf_terms.proofs.Common.{In, AreDistinct, Statement, mentions, is_node, is_named_by, statement, term_at, graph_name_at, IsInRange, In-map, from_In-map, In-at, In-take, AreDistinct-take, place_in, one_place, decide_in, All-from_each, each-from_All, AreDistinct-map, map-agree, map-map}
 use Rattle.rdf_terms.specs.declared.term.Term.{Term}
 use Rattle.rdf_terms.specs.declared.term.Term.TheVariants.{Iri, Blank, Literal}
 use Rattle.rdf_terms.specs.declared.term.Quad.{Quad}
-use Rattle.rdf_terms.proofs.Membership.{In-map, from_In-map, In-at, In-take, AreDistinct-take, place_in, one_place}
 use Rattle.rdf_terms.proofs.Adding.{statement_injective}
 use Rattle.graph_model.specs.Graphs.{mapped, mapped_triple, IsReached}
-use Rattle.graph_model.specs.Components.{IsMapOf, IsTight, Touches, IsTripleOf}
+use Rattle.graph_model.specs.Components.{IsMapOf, IsTight, Touches}
 use Rattle.graph_model.specs.Counts.{IsEnd, MentionsOnly, IsPartialMap, HasMoreMaps, IsBeginning, HasMoreBeginnings}
 use Rattle.graph_model.proofs.Maps.{by_subject, by_object, eqb-itself}
-use Rattle.graph_model.proofs.Closed.{decide_in}
 use Rattle.map_search.specs.Pattern.{carried, map_of, IsNodeMap, TouchesOneOf, IsReachedBy, ReachesAll, IsEndIn, EndsAmong, IsPartialNodeMap, HasMoreNodeMaps, IsNodeBeginning, HasMoreNodeBeginnings}
 use Rattle.map_search.specs.Laws.{IsInTriple, MeansOfEnding}
 use Rattle.map_search.specs.Numbers.{AreNumbers, Agrees, IsSaidBy, MeansByTerms}
 use Rattle.map_search.specs.declared.search.Ending.{Ending}
 use Rattle.map_search.specs.declared.search.Ending.TheVariants.{Found, Nothing, PastLimit}
 use Rattle.map_search.proofs.Images.{map_of-kept, map_of-same}
+use Rattle.map_search.proofs.Telling.{into_graph}
 use Rattle.std.proofs.lemmas.Bool.{or_cases}
-use Rattle.rdf_terms.proofs.MadeLists.{All-from_each, each-from_All, AreDistinct-map, map-agree, map-map}
 
 -- ---- the number of a node
 
@@ -66,16 +61,6 @@ past_none (t ∷ ts) n k p l e = by (past_none ts n) (is_node n t) refl p
     by ih true f q = absurd (omega arith)
     by ih false f q = later ih k refl (omega arith) f
 
-past_default : (ts : List Term) (k : ℕ) (d : Term) → length ts ≤ k → get_or ts k d ≡ d
-past_default [] k d l = refl
-past_default (t ∷ ts) zero d l = absurd (omega arith)
-past_default (t ∷ ts) (suc k) d l = past_default ts k d (omega arith)
-
-any_default : (ts : List Term) (k : ℕ) (d e : Term) → k < length ts → get_or ts k d ≡ get_or ts k e
-any_default [] k d e l = absurd (omega arith)
-any_default (t ∷ ts) zero d e l = refl
-any_default (t ∷ ts) (suc k) d e l = any_default ts k d e (omega arith)
-
 module _ (terms : List Term) (terms_once : AreDistinct terms) where
   pub number_is : (m n : ℕ) → m < length terms → n < length terms → term_at terms m ≡ term_at terms n → m ≡ n
   number_is m n l k e = one_place terms m n (term_at terms m) terms_once (slice_get-get_or terms m (Blank 0) l) (slice_get-get_or terms n (Blank 0) k ∙ ap Some (sym e))
@@ -92,7 +77,7 @@ module _ (terms : List Term) (terms_once : AreDistinct terms) where
   said m k (Blank n) l i b o e =
       elim (at_or_past terms n) [
         | inl p ↦ (let s : number_of_node terms n ≡ k = number_is (number_of_node terms n) k p.0 l (p.1 ∙ sym e) in ap (term_at terms) (ap m (sym s))
-            ∙ any_default terms (m (number_of_node terms n)) (Blank 0) (Blank n) (subst (λ w. m w < length terms) (sym s) i))
+            ∙ get_or_default terms (m (number_of_node terms n)) (Blank 0) (Blank n) (subst (λ w. m w < length terms) (sym s) i))
         | inr p ↦ absurd (past_none terms n k p l e)
       ]
 
@@ -105,9 +90,9 @@ module _ (terms : List Term) (terms_once : AreDistinct terms) where
   unfolding by_numbers
   kept_by_numbers m n past other =
       elim (at_or_past terms n) [
-        | inl p ↦ ap (λ w. get_or terms w (Blank n)) (other (number_of_node terms n) p.1 p.0) ∙ any_default terms (number_of_node terms n) (Blank n) (Blank 0) p.0
+        | inl p ↦ ap (λ w. get_or terms w (Blank n)) (other (number_of_node terms n) p.1 p.0) ∙ get_or_default terms (number_of_node terms n) (Blank n) (Blank 0) p.0
             ∙ p.1
-        | inr p ↦ ap (λ w. get_or terms w (Blank n)) (past (number_of_node terms n) p) ∙ past_default terms (number_of_node terms n) (Blank n) p
+        | inr p ↦ ap (λ w. get_or terms w (Blank n)) (past (number_of_node terms n) p) ∙ get_or_past terms (number_of_node terms n) (Blank n) p
       ]
 
   -- ---- a triple and its image, by either
@@ -177,20 +162,10 @@ map_of-front [] (t ∷ ts) n = refl
 map_of-front (x ∷ xs) [] n = refl
 map_of-front (x ∷ xs) (t ∷ ts) n = ap (λ w. if x == n then t else w) (map_of-front xs ts n)
 
-length-front : (xs : List ℕ) (n : ℕ) → n ≤ length xs → n ≡ length (take n xs)
-length-front xs zero l = refl
-length-front [] (suc n) l = absurd (omega arith)
-length-front (x ∷ xs) (suc n) l = ap suc (length-front xs n (omega arith))
-
 images_are_front : (nodes images : List ℕ) → AreDistinct nodes → length images ≤ length nodes → images ≡ map (map_of nodes images) (take (length images) nodes)
 images_are_front nodes images once front =
-    sym (map_of-same (take (length images) nodes) images (AreDistinct-take (length images) nodes once) (length-front nodes (length images) front))
+    sym (map_of-same (take (length images) nodes) images (AreDistinct-take (length images) nodes once) (sym (length-take-le (length images) nodes front)))
     ∙ map-agree (map_of (take (length images) nodes) images) (map_of nodes images) (take (length images) nodes) (λ k i. map_of-front nodes images k)
-
-map-take : {A B : Type 0} (f : A → B) (n : ℕ) (xs : List A) → map f (take n xs) ≡ take n (map f xs)
-map-take f zero xs = refl
-map-take f (suc n) [] = refl
-map-take f (suc n) (x ∷ xs) = ap (λ w. f x ∷ w) (map-take f n xs)
 
 same_numbers : (terms : List Term) → AreDistinct terms → (xs ys : List ℕ) → ((k : ℕ) → In k xs → k < length terms) → ((k : ℕ) → In k ys → k < length terms)
     → map (term_at terms) xs ≡ map (term_at terms) ys → xs ≡ ys
@@ -287,22 +262,10 @@ module _ (terms : List Term) (H : List Quad) (nodes walk : List ℕ) (are : AreN
     pub agrees : Agrees terms (by_numbers terms are.terms_once m) m
     agrees = agrees_by_numbers terms are.terms_once m within (λ k l none. is_map.kept k (not_node k none))
 
-    all_carried : (q : Quad) → In q H → In (carried m q) H
-    all_carried q there = by (decide_in q.s nodes) (decide_in q.o nodes)
-      where
-        by : In q.s nodes ⊎ (¬ (In q.s nodes)) → In q.o nodes ⊎ (¬ (In q.o nodes)) → In (carried m q) H
-        by (inl i) d = is_map.carries q there (record { node = q.s; there = i; end = inl refl })
-        by (inr n) (inl i) = is_map.carries q there (record { node = q.o; there = i; end = inr refl })
-        by (inr n) (inr k) =
-            let s : m q.s ≡ q.s = is_map.kept q.s n in
-            let o : m q.o ≡ q.o = is_map.kept q.o k in
-            let e : carried m q ≡ q = λ i. record { s = s i; p = q.p; o = o i; g = q.g } in
-            subst (λ x. In x H) (sym e) there
-
     pub is_map_of : IsMapOf triples walk (by_numbers terms are.terms_once m)
     is_map_of = record {
       endomorphism = λ st there. (let p = from_In-map (statement terms) H st there in subst (λ w. In (mapped_triple (by_numbers terms are.terms_once m) w) triples) (sym p.2)
-          ((carried_there terms are.terms_once (by_numbers terms are.terms_once m) m agrees H are.in_range p.0 p.1).0 (all_carried p.0 p.1)));
+          ((carried_there terms are.terms_once (by_numbers terms are.terms_once m) m agrees H are.in_range p.0 p.1).0 (into_graph H nodes m is_map p.0 p.1)));
       kept = λ n out. kept_by_numbers terms are.terms_once m n (λ k l. is_map.kept k (λ i. (let w = node_within k i in omega arith))) (λ k e l. is_map.kept k (λ i. out (to_walk k n i e)));
     }
 
@@ -384,7 +347,7 @@ module _ (terms : List Term) (H : List Quad) (nodes walk : List ℕ) (are : AreN
         (λ k l none. map_of-kept nodes images k (λ i. (let p = node_of terms are.terms_once nodes walk are.nodes_are k i in none p.0 p.2)))
 
     front_are : (n : ℕ) → map (term_at terms) (take n nodes) ≡ map Blank (take n walk)
-    front_are n = map-take (term_at terms) n nodes ∙ ap (take n) are.nodes_are ∙ sym (map-take Blank n walk)
+    front_are n = sym (take-map (term_at terms) n nodes) ∙ ap (take n) are.nodes_are ∙ take-map Blank n walk
 
     images_are : map (term_at terms) images ≡ map first_map (take (length images) walk)
     images_are = ap (map (term_at terms)) (images_are_front nodes images are.once partial.within)
@@ -459,12 +422,12 @@ module _ (terms : List Term) (H : List Quad) (nodes walk : List ℕ) (are : AreN
       let n = length images in
       let k : length nodes ≡ length walk = sym (length-map nodes (term_at terms)) ∙ ap length are.nodes_are ∙ length-map walk Blank in
       let w : n ≤ length walk = b.within in
-      let c : length (map m (take n nodes)) ≡ n = length-map (take n nodes) m ∙ sym (length-front nodes n (omega arith)) in
+      let c : length (map m (take n nodes)) ≡ n = length-map (take n nodes) m ∙ length-take-le n nodes (omega arith) in
       let e : map (term_at terms) (map m (take n nodes)) ≡ map b.μ (take n walk) =
       map-map (term_at terms) m (take n nodes)
       ∙ map-agree (λ x. term_at terms (m x)) (λ x. mapped b.μ (term_at terms x)) (take n nodes) (λ x i. (numbers_agree b.μ b.is_map).same x (node_within x (In-take n nodes x i)))
       ∙ sym (map-map (mapped b.μ) (term_at terms) (take n nodes))
-      ∙ ap (map (mapped b.μ)) (map-take (term_at terms) n nodes ∙ ap (take n) are.nodes_are ∙ sym (map-take Blank n walk))
+      ∙ ap (map (mapped b.μ)) (sym (take-map (term_at terms) n nodes) ∙ ap (take n) are.nodes_are ∙ take-map Blank n walk)
       ∙ map-map (mapped b.μ) Blank (take n walk) in
       record {
         begun = map m (take n nodes);
@@ -485,7 +448,11 @@ module _ (terms : List Term) (H : List Quad) (nodes walk : List ℕ) (are : AreN
       let r = all_begun xs (λ y i. each y (inr i)) in
       record {
         lists = b.begun ∷ r.lists;
-        are_beginnings = All-from_each (IsNodeBeginning H nodes) (b.begun ∷ r.lists) (λ y. elim [ inl e ↦ subst (IsNodeBeginning H nodes) (sym e) b.is_beginning | inr i ↦ each-from_All (IsNodeBeginning H nodes) r.lists y r.are_beginnings i ]);
+        are_beginnings =
+            All-from_each (IsNodeBeginning H nodes) (b.begun ∷ r.lists) (λ y. elim [
+              | inl e ↦ subst (IsNodeBeginning H nodes) (sym e) b.is_beginning
+              | inr i ↦ each-from_All (IsNodeBeginning H nodes) r.lists y r.are_beginnings i
+            ]);
         terms_are = λ i. b.terms_are i ∷ r.terms_are i;
       }
 
@@ -499,7 +466,8 @@ module _ (terms : List Term) (H : List Quad) (nodes walk : List ℕ) (are : AreN
         more = (let c : length r.lists ≡ length more.beginnings = sym (length-map r.lists (map (term_at terms))) ∙ ap length r.terms_are in let l = more.more in omega arith);
       }
 
-pub endings_mean_by_terms : (terms : List Term) (H : List Quad) (nodes walk : List ℕ) (limit : ℕ) (ending : Ending) → AreNumbers terms H nodes walk → MeansOfEnding H nodes limit ending → MeansByTerms terms H nodes walk limit ending
+pub endings_mean_by_terms : (terms : List Term) (H : List Quad) (nodes walk : List ℕ) (limit : ℕ) (ending : Ending) → AreNumbers terms H nodes walk → MeansOfEnding H nodes limit ending
+    → MeansByTerms terms H nodes walk limit ending
 endings_mean_by_terms terms H nodes walk limit (Found images) are m = (said_by terms H nodes walk are (map_of nodes images.items) m.0, m.1)
 endings_mean_by_terms terms H nodes walk limit Nothing are m = (tight terms H nodes walk are m.0, λ more. m.1 (more_beginnings terms H nodes walk are limit more))
 endings_mean_by_terms terms H nodes walk limit PastLimit are m = more_maps terms H nodes walk are limit m

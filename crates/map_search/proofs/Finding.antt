@@ -1,13 +1,10 @@
 -- The least number that is found under two others.
-use Rattle.std.proofs.Common.{◌≡◌, ℕ, ◌<◌, ◌≤◌, ◌⊎◌, ◌==◌, Bool, true, false, ◌||◌, ◌&&◌, List, length, refl, sym, ap, ◌∙◌, subst, inl, inr, arith, true≢false, nat_lt}
-use Rattle.std.proofs.lemmas.Bool.{ltb-true, lt-ltb}
+use Rattle.std.proofs.Common.{◌≡◌, ℕ, ◌<◌, ◌≤◌, true, false, length, refl, sym, ap, ◌∙◌, subst, inl, inr, arith, true≢false}
+use Rattle.std.proofs.lemmas.Bool.{cases_lt, cases_order, ltb-true}
 use Rattle.map_search.specs.declared.table.Entry.{Entry}
-use Rattle.map_search.specs.Marks.{mark_at, IsNextMark, NoMark}
+use Rattle.map_search.specs.Marks.{IsNextMark, NoMark}
 use Rattle.map_search.specs.Table.{TableView, is_before, entry_at, AreInOrder, IsStart, HasEntry, IsLeastValue}
 use Rattle.map_search.proofs.Ordering.{step_of, of_step}
-
-three : (a b : ℕ) → (a < b) ⊎ ((a ≡ b) ⊎ (b < a))
-three a b = grind arith
 
 -- what an entry under the two numbers is to another
 module _ (a b : Entry) (f : a.first ≡ b.first) (s : a.second ≡ b.second) where
@@ -56,11 +53,11 @@ module _ (t : TableView) (order : AreInOrder t.entries) (first second from start
 
   has_behind : (v : ℕ) → from ≤ v → (h : HasEntry t first second v) → start ≤ h.place
   has_behind v l h =
-      elim (three h.place start) [
+      elim (cases_lt h.place start) [
         | inl b ↦ absurd
             (let n = not_tied (entry_at t.entries h.place) sought h.first_is h.second_is
             (begins.before h.place b) refl in let e = h.value_is in omega arith)
-        | inr r ↦ elim r [ inl e ↦ omega arith | inr g ↦ omega arith ]
+        | inr r ↦ r
       ]
 
   pub found : (at : ℕ) → IsNextMark t.marks start (length t.marks) at → at < length t.entries → (entry_at t.entries at).first ≡ first → (entry_at t.entries at).second ≡ second
@@ -68,40 +65,40 @@ module _ (t : TableView) (order : AreInOrder t.entries) (first second from start
   found at next l f s = record { behind = behind; there = record { place = at; within = l; marked = next.marked; first_is = f; second_is = s; value_is = refl }; least = least }
     where
       behind : from ≤ (entry_at t.entries at).value
-      behind = elim (three (entry_at t.entries at).value from) [
+      behind = elim (cases_lt (entry_at t.entries at).value from) [
         | inl b ↦ absurd
             (true≢false (sym (from_value (entry_at t.entries at) sought f s b) ∙ begins.behind at next.behind l))
-        | inr r ↦ elim r [ inl e ↦ omega arith | inr g ↦ omega arith ]
+        | inr r ↦ r
       ]
 
       least : (v : ℕ) → from ≤ v → v < (entry_at t.entries at).value → ¬ (HasEntry t first second v)
       least v b m h =
-          elim (three h.place at) [
-            | inl c ↦ true≢false
-                (sym h.marked
-                ∙ next.first h.place
-                (has_behind v b h) c)
+          elim (cases_order h.place at) [
+            | inl e ↦ (let w : (entry_at t.entries at).value ≡ v = sym (ap (λ k. (entry_at t.entries k).value) e)
+                ∙ h.value_is in omega arith)
             | inr r ↦ elim r [
-              | inl e ↦ (let w : (entry_at t.entries at).value ≡ v = sym (ap (λ k. (entry_at t.entries k).value) e)
-                  ∙ h.value_is in omega arith)
+              | inl c ↦ true≢false
+                  (sym h.marked
+                  ∙ next.first h.place
+                  (has_behind v b h) c)
               | inr g ↦ (let w =
                   by_value (entry_at t.entries at) (entry_at t.entries h.place) (f ∙ sym h.first_is) (s ∙ sym h.second_is) (order at h.place g h.within) in let e = h.value_is in omega arith)
             ]
           ]
 
   pub none_marked : NoMark t.marks start (length t.marks) → length t.entries ≤ length t.marks → (v : ℕ) → from ≤ v → ¬ (HasEntry t first second v)
-  none_marked none room v b h = true≢false (sym h.marked ∙ none h.place (has_behind v b h) (let w = h.within in omega arith))
+  none_marked none enough v b h = true≢false (sym h.marked ∙ none h.place (has_behind v b h) (let w = h.within in omega arith))
 
   pub none_at : (at : ℕ) → IsNextMark t.marks start (length t.marks) at → (at < length t.entries → (entry_at t.entries at).first ≡ first → (entry_at t.entries at).second ≡ second → ⊥) → (v : ℕ)
       → from ≤ v → ¬ (HasEntry t first second v)
   none_at at next other v b h =
-      elim (three h.place at) [
-        | inl c ↦ true≢false
-            (sym h.marked
-            ∙ next.first h.place (has_behind v b h) c)
+      elim (cases_order h.place at) [
+        | inl e ↦ other (subst (λ k. k < length t.entries) e h.within) (sym (ap (λ k. (entry_at t.entries k).first) e) ∙ h.first_is)
+            (sym (ap (λ k. (entry_at t.entries k).second) e) ∙ h.second_is)
         | inr r ↦ elim r [
-          | inl e ↦ other (subst (λ k. k < length t.entries) e h.within) (sym (ap (λ k. (entry_at t.entries k).first) e) ∙ h.first_is)
-              (sym (ap (λ k. (entry_at t.entries k).second) e) ∙ h.second_is)
+          | inl c ↦ true≢false
+              (sym h.marked
+              ∙ next.first h.place (has_behind v b h) c)
           | inr g ↦ after g
         ]
       ]

@@ -1,10 +1,10 @@
 -- The images of a map of all places, as a map of the nodes.
-use Rattle.std.proofs.Common.{◌≡◌, ℕ, zero, suc, ◌+◌, ◌<◌, ◌≤◌, ◌⊎◌, ◌↔◌, ◌==◌, Bool, true, false, ◌&&◌, if◌then◌else◌, List, [], ◌∷◌, ◌++◌, length, take, drop, map, reverse, get_or, None, refl, sym, ap, ◌∙◌, subst, inl, inr, arith, eq-eqb, true≢false}
+use Rattle.std.proofs.Common.{◌≡◌, ℕ, zero, suc, ◌<◌, ◌≤◌, ◌⊎◌, ◌==◌, Bool, true, false, if◌then◌else◌, List, [], ◌∷◌, ◌++◌, length, take, drop, map, reverse, get_or, refl, sym, ap, ◌∙◌, subst, inl, inr, arith, eq-eqb}
 use Rattle.std.specs.List.{list_all}
 use Rattle.std.proofs.lemmas.Bool.{eqb-true}
 use Rattle.std.proofs.lemmas.List.{get_or-take, length-map, length-take-le, reverse-append, reverse-reverse, take-append-drop, take-map}
 use Rattle.std.proofs.Math.Seq.{take-suc, take-length}
-use Rattle.rdf_terms.specs.Lists.{In, AreDistinct}
+use Rattle.rdf_terms.proofs.Common.{In, AreDistinct, All-from_each, each-from_All, In-get_or, place_within}
 use Rattle.std.proofs.lemmas.Bool.{and_parts}
 use Rattle.rdf_terms.specs.declared.term.Quad.{Quad}
 use Rattle.map_search.specs.declared.rows.End.{End}
@@ -14,12 +14,11 @@ use Rattle.map_search.specs.declared.rows.Condition.TheVariants.{Subject, Object
 use Rattle.map_search.specs.declared.search.Ending.{Ending}
 use Rattle.map_search.specs.declared.search.Ending.TheVariants.{Found, Nothing, PastLimit}
 use Rattle.map_search.specs.Maps.{FitBackwards, IsMap}
-use Rattle.map_search.specs.Ends.{IsEnding, IsSought, IsMet, HasMore, IsNothing}
+use Rattle.map_search.specs.Ends.{IsEnding, IsMet, HasMore, IsNothing}
 use Rattle.map_search.specs.Rows.{meets_all}
-use Rattle.map_search.specs.Pattern.{carried, map_of, IsNodeMap, TouchesOneOf, end_at, Stands, Meets, IsOtherEnd, IsAsked, IsAskedWhole, IsWhole, row_at, AreRows, TellsMeets, TellsMisses, fits_rows, EachIsAsked, ReachesAll, IsEndIn, EndsAmong, IsPartialNodeMap, HasMoreNodeMaps, IsNodeBeginning, HasMoreNodeBeginnings}
+use Rattle.map_search.specs.Pattern.{carried, map_of, IsNodeMap, TouchesOneOf, end_at, Stands, Meets, IsOtherEnd, IsAsked, IsAskedWhole, IsWhole, row_at, TellsMisses, fits_rows, ReachesAll, IsEndIn, EndsAmong, IsPartialNodeMap, HasMoreNodeMaps, IsNodeBeginning, HasMoreNodeBeginnings}
 use Rattle.map_search.specs.Laws.{IsSearch, MeansOfEnding}
 use Rattle.map_search.proofs.Linking.{node_map_is_map}
-use Rattle.rdf_terms.proofs.MadeLists.{All-from_each, each-from_All, In-get_or, place_within}
 
 -- ---- each image of a map fits behind those before it
 
@@ -193,12 +192,15 @@ module _ (G H : List Quad) (nodes : List ℕ) (rows : List (List Condition)) (bo
           is_partial G H nodes rows bound meets search images met.is_map (omega arith)
 
 -- where no map is sought, each beginning of a map is met
-few_beginnings : (H : List Quad) (nodes : List ℕ) (rows : List (List Condition)) (bound : ℕ) (meets : List ℕ → Condition → ℕ → Bool) (sought : List ℕ → Bool) (limit : ℕ) → IsSearch H H nodes rows bound meets → IsNothing bound (fits_rows meets rows) (length rows) sought limit → ¬ (HasMoreNodeBeginnings H nodes limit)
+few_beginnings : (H : List Quad) (nodes : List ℕ) (rows : List (List Condition)) (bound : ℕ) (meets : List ℕ → Condition → ℕ → Bool) (sought : List ℕ → Bool) (limit : ℕ)
+    → IsSearch H H nodes rows bound meets → IsNothing bound (fits_rows meets rows) (length rows) sought limit → ¬ (HasMoreNodeBeginnings H nodes limit)
 few_beginnings H nodes rows bound meets sought limit s nothing more =
     nothing.few (record {
       maps = more.beginnings;
       distinct = more.distinct;
-      are_met = All-from_each (IsMet bound (fits_rows meets rows) (length rows) sought) more.beginnings (λ images i. met images (each-from_All (IsNodeBeginning H nodes) more.beginnings images more.are_beginnings i));
+      are_met =
+          All-from_each (IsMet bound (fits_rows meets rows) (length rows) sought) more.beginnings
+          (λ images i. met images (each-from_All (IsNodeBeginning H nodes) more.beginnings images more.are_beginnings i));
       more = more.more;
     })
   where
@@ -206,7 +208,9 @@ few_beginnings H nodes rows bound meets sought limit s nothing more =
     met images b =
         let e : images ≡ take (length images) (map b.m nodes) = b.images_are ∙ sym (take-map b.m (length images) nodes) in
         record {
-          is_map = subst (IsMap bound (fits_rows meets rows)) (sym e) (front_is_map bound (fits_rows meets rows) (map b.m nodes) (length images) (node_map_is_map H H nodes b.m b.is_map rows s.rows_are s.asked bound meets s.tells));
+          is_map =
+              subst (IsMap bound (fits_rows meets rows)) (sym e) (front_is_map bound (fits_rows meets rows) (map b.m nodes) (length images)
+              (node_map_is_map H H nodes b.m b.is_map rows s.rows_are s.asked bound meets s.tells));
           within = (let c : length rows ≡ length nodes = s.rows_are.count in let w = b.within in omega arith);
           none_before = λ other o. absurd (nothing.none other o);
         }
@@ -226,6 +230,7 @@ endings_mean H nodes rows bound meets sought limit (Found images) s t e =
 endings_mean H nodes rows bound meets sought limit Nothing s t e = (λ m n. by m n (sought (map m nodes)) refl, few_beginnings H nodes rows bound meets sought limit s e)
   where
     by : (m : ℕ → ℕ) → IsNodeMap H H nodes m → (b : Bool) → sought (map m nodes) ≡ b → ReachesAll H nodes m
-    by m n true f = absurd (e.none (map m nodes) (record { is_map = node_map_is_map H H nodes m n rows s.rows_are s.asked bound meets s.tells; whole = length-map nodes m ∙ sym s.rows_are.count; is_sought = f }))
+    by m n true f =
+        absurd (e.none (map m nodes) (record { is_map = node_map_is_map H H nodes m n rows s.rows_are s.asked bound meets s.tells; whole = length-map nodes m ∙ sym s.rows_are.count; is_sought = f }))
     by m n false f = t.reaches m n f
 endings_mean H nodes rows bound meets sought limit PastLimit s t e = more_node_maps H H nodes rows bound meets s sought limit e

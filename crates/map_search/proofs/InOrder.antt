@@ -1,16 +1,12 @@
 -- The maps that a search goes through come in their order, so a sought one among those that are pending stands before none of the others.
-use Rattle.std.proofs.Common.{◌≡◌, ℕ, zero, suc, ◌+◌, ◌-◌, ◌<◌, ◌≤◌, ◌⊎◌, Bool, true, false, if◌then◌else◌, List, [], ◌∷◌, ◌++◌, length, reverse, map, All, refl, sym, ap, ◌∙◌, subst, inl, inr, arith, true≢false, is_lt, nat_cmp, append_assoc, length-append, lt-ltb, cond, Less, Equal, Greater, eqb}
+use Rattle.std.proofs.Common.{◌≡◌, ℕ, zero, suc, ◌<◌, ◌≤◌, Bool, true, false, if◌then◌else◌, List, [], ◌∷◌, ◌++◌, length, reverse, map, refl, sym, ap, ◌∙◌, subst, inl, inr, arith, true≢false, is_lt, nat_cmp, append_assoc, length-append, lt-ltb, cond, Less, Equal, Greater, eqb}
 use Rattle.std.specs.Cmp.Lexicographic.{slice_cmp}
 use Rattle.std.specs.Ordering.{ordering_then}
-use Rattle.std.proofs.lemmas.Cmp.{nat_cmp_total, tied_itself}
 use Rattle.std.proofs.lemmas.Grind.{reverse_onto}
 use Rattle.std.proofs.lemmas.List.{append-nil, length-map, length-reverse, reverse-reverse}
-use Rattle.rdf_terms.specs.Lists.{In, AreDistinct, is_before}
-use Rattle.rdf_terms.proofs.MadeLists.{All-from_each, each-from_All}
-use Rattle.rdf_terms.proofs.Membership.{In-append, In-append_left, In-append_right, In-map, from_In-map}
-use Rattle.rdf_terms.proofs.TextOrder.{is_before-asym, is_before-irrefl}
+use Rattle.rdf_terms.proofs.Common.{In, AreDistinct, is_before, All-from_each, each-from_All, In-append, In-append_left, In-append_right, In-map, from_In-map, is_before-asym, is_before-front, is_before-irrefl}
 use Rattle.graph_model.proofs.Counting.{length-within}
-use Rattle.map_search.specs.Maps.{FitBackwards, IsMap}
+use Rattle.map_search.specs.Maps.{FitBackwards}
 use Rattle.map_search.specs.Ends.{IsSought, IsMet, HasMore}
 use Rattle.map_search.proofs.Tree.{branches, visits}
 use Rattle.map_search.proofs.Reading.{from_branches, visits-fit, visits-all}
@@ -19,10 +15,6 @@ use Rattle.map_search.proofs.Reading.{from_branches, visits-fit, visits-all}
 
 is_before-first : (x y : ℕ) (a b : List ℕ) → x < y → is_before (x ∷ a) (y ∷ b) ≡ true
 is_before-first x y a b l = ap (λ o. is_lt (ordering_then o (slice_cmp nat_cmp a b))) (ap (λ t. cond t Less (cond (eqb x y) Equal Greater)) (lt-ltb x y l))
-
-is_before-front : (front a b : List ℕ) → is_before (front ++ a) (front ++ b) ≡ is_before a b
-is_before-front [] a b = refl
-is_before-front (x ∷ front) a b = ap (λ o. is_lt (ordering_then o (slice_cmp nat_cmp (front ++ a) (front ++ b)))) (tied_itself nat_cmp_total x) ∙ is_before-front front a b
 
 -- paths, from the last image back, in the order of their maps
 abbrev pub AreAscending : List (List ℕ) → Type 0
@@ -88,7 +80,8 @@ module _ (bound : ℕ) (fits : List ℕ → ℕ → Bool) where
           let l : from < b.image = (let k = b.behind in omega arith) in
           rw (e, b.map_is) (is_before-front (reverse path) (from ∷ a.0) (b.image ∷ b.rest) ∙ is_before-first from b.image a.0 b.rest l)
 
-      by : AreAscending (branches bound fits (visits bound fits n) path (suc from) left) → (b : Bool) → fits (reverse path) from ≡ b → AreAscending ((if fits (reverse path) from then visits bound fits n (from ∷ path) else []) ++ branches bound fits (visits bound fits n) path (suc from) left)
+      by : AreAscending (branches bound fits (visits bound fits n) path (suc from) left) → (b : Bool) → fits (reverse path) from ≡ b
+          → AreAscending ((if fits (reverse path) from then visits bound fits n (from ∷ path) else []) ++ branches bound fits (visits bound fits n) path (suc from) left)
       by ih true e = rw e (ascending_append (visits bound fits n (from ∷ path)) (branches bound fits (visits bound fits n) path (suc from) left) (each from) ih later)
       by ih false e = rw e ih
 
@@ -117,7 +110,9 @@ module _ (bound : ℕ) (fits : List ℕ → ℕ → Bool) where
         record {
           is_map = subst (FitBackwards bound fits) (sym (reverse-reverse p)) r.0;
           within = omega arith;
-          none_before = λ other s. is_before-asym (reverse p) other (subst (λ w. is_before (reverse p) w ≡ true) (reverse-reverse other) (ascending_parts done rest ascending p (reverse other) i (pending other s)));
+          none_before =
+              λ other s. is_before-asym (reverse p) other (subst (λ w. is_before (reverse p) w ≡ true) (reverse-reverse other)
+              (ascending_parts done rest ascending p (reverse other) i (pending other s)));
         }
 
     -- none of the others is met: no more are met than are done
@@ -132,9 +127,12 @@ module _ (bound : ℕ) (fits : List ℕ → ℕ → Bool) where
         within images i =
             let met = each-from_All (IsMet bound fits places sought) h.maps images h.are_met i in
             let k : length (reverse images) ≡ length images = length-reverse images in
-            let room = met.within in
+            let w = met.within in
             let j : In (reverse images) (visits bound fits places []) = visits-all bound fits places (reverse images) met.is_map (omega arith) in
-            elim (In-append done rest (reverse images) (subst (λ w. In (reverse images) w) split j)) [ inl d ↦ subst (λ w. In w (map reverse done)) (reverse-reverse images) (In-map reverse done (reverse images) d) | inr r ↦ absurd (others (reverse images) r (subst (IsMet bound fits places sought) (sym (reverse-reverse images)) met)) ]
+            elim (In-append done rest (reverse images) (subst (λ w. In (reverse images) w) split j)) [
+              | inl d ↦ subst (λ w. In w (map reverse done)) (reverse-reverse images) (In-map reverse done (reverse images) d)
+              | inr r ↦ absurd (others (reverse images) r (subst (IsMet bound fits places sought) (sym (reverse-reverse images)) met))
+            ]
 
     pub more_are_met : (limit : ℕ) → limit < length done → ((p : List ℕ) → In p done → IsMet bound fits places sought (reverse p)) → HasMore bound fits places sought limit
     more_are_met limit more met = record {
@@ -149,7 +147,8 @@ module _ (bound : ℕ) (fits : List ℕ → ℕ → Bool) where
 
   -- ---- at a map that is met next
 
-  module _ (places : ℕ) (sought : List ℕ → Bool) (done : List (List ℕ)) (next : List ℕ) (rest : List (List ℕ)) (split : visits bound fits places [] ≡ done ++ next ∷ rest) (pending : (other : List ℕ) → IsSought bound fits places sought other → In (reverse other) (next ∷ rest)) where
+  module _ (places : ℕ) (sought : List ℕ → Bool) (done : List (List ℕ)) (next : List ℕ) (rest : List (List ℕ)) (split : visits bound fits places [] ≡ done ++ next ∷ rest)
+      (pending : (other : List ℕ) → IsSought bound fits places sought other → In (reverse other) (next ∷ rest)) where
     moved : visits bound fits places [] ≡ (done ++ next ∷ []) ++ rest
     moved = split ∙ sym (append_assoc done (next ∷ []) rest)
 
@@ -172,7 +171,11 @@ module _ (bound : ℕ) (fits : List ℕ → ℕ → Bool) where
         by other (inr i) = is_before-asym (reverse next) other (subst (λ w. is_before (reverse next) w ≡ true) (reverse-reverse other) (next_before (reverse other) i))
 
     each_is_met : (p : List ℕ) → In p (done ++ next ∷ []) → IsMet bound fits places sought (reverse p)
-    each_is_met p i = elim (In-append done (next ∷ []) p i) [ inl d ↦ done_are_met places sought done (next ∷ rest) split pending p d | inr h ↦ elim h [ inl e ↦ subst (λ w. IsMet bound fits places sought (reverse w)) (sym e) next_is_met | inr z ↦ absurd z ] ]
+    each_is_met p i =
+        elim (In-append done (next ∷ []) p i) [
+          | inl d ↦ done_are_met places sought done (next ∷ rest) split pending p d
+          | inr h ↦ elim h [ inl e ↦ subst (λ w. IsMet bound fits places sought (reverse w)) (sym e) next_is_met | inr z ↦ absurd z ]
+        ]
 
     pub more_with_next : (limit : ℕ) → limit ≡ length done → HasMore bound fits places sought limit
     more_with_next limit e = more_are_met places sought (done ++ next ∷ []) rest moved limit (let k = length-append done (next ∷ []) in omega arith) each_is_met

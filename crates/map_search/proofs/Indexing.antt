@@ -1,17 +1,14 @@
 -- What the tables of an index hold of its triples.
-use Rattle.std.proofs.Common.{◌≡◌, ℕ, zero, suc, ◌+◌, ◌<◌, ◌≤◌, ◌⊎◌, ◌↔◌, ◌==◌, Bool, true, false, ◌||◌, ◌&&◌, if◌then◌else◌, List, [], ◌∷◌, length, get_or, Option, Some, None, IfSome, refl, sym, ap, ◌∙◌, subst, inl, inr, arith, true≢false, eq-eqb}
+use Rattle.std.proofs.Common.{◌≡◌, ℕ, zero, suc, ◌<◌, ◌≤◌, ◌⊎◌, ◌↔◌, ◌==◌, Bool, true, false, ◌||◌, ◌&&◌, if◌then◌else◌, List, [], ◌∷◌, length, Option, Some, None, IfSome, refl, sym, ap, ◌∙◌, subst, inl, inr, arith, true≢false, eq-eqb}
 use Rattle.std.specs.Option.{IfNone}
-use Rattle.std.specs.List.{list_any, slice_get, slice_set}
-use Rattle.std.proofs.lemmas.Bool.{eqb-true}
-use Rattle.std.proofs.lemmas.List.{length-set, get_or-set_same, get_or-set_other}
-use Rattle.std.proofs.lemmas.Option.{slice_get-get_or, slice_get_within, get_or_from_slice_get}
-use Rattle.rdf_terms.specs.Lists.{In, AreDistinct, Permutes}
+use Rattle.std.specs.List.{list_any, slice_set}
+use Rattle.std.proofs.lemmas.Bool.{eqb-true, cases_eq, and_from, or_right}
+use Rattle.std.proofs.lemmas.List.{get_or-set_same, get_or-set_other}
+use Rattle.rdf_terms.proofs.Common.{In, AreDistinct, Permutes, In-get_or, place_within, In-Permutes, Permutes-sym}
 use Rattle.std.proofs.lemmas.Bool.{and_parts}
-use Rattle.rdf_terms.proofs.Membership.{In-at, place_in}
-use Rattle.rdf_terms.proofs.Permutations.{In-Permutes, Permutes-sym}
 use Rattle.rdf_terms.specs.declared.term.Quad.{Quad}
 use Rattle.map_search.specs.Maps.{IsNext, NoneFits}
-use Rattle.map_search.specs.Pattern.{end_at, TellsMeets, Stands, Meets}
+use Rattle.map_search.specs.Pattern.{end_at, TellsMeets, Meets}
 use Rattle.map_search.specs.declared.rows.Condition.{Condition}
 use Rattle.map_search.specs.declared.rows.Condition.TheVariants.{Subject, Object, Both, SomeSubject, SomeObject}
 use Rattle.map_search.specs.declared.table.Entry.{Entry}
@@ -19,25 +16,14 @@ use Rattle.map_search.specs.declared.index.Asked.{Asked}
 use Rattle.map_search.specs.declared.index.Asked.TheVariants.{AsSubject, AsObject, AsBoth, AsSomeSubject, AsSomeObject}
 use Rattle.map_search.specs.Marks.{mark_at}
 use Rattle.map_search.specs.Table.{TableView, entry_at, no_entry, HasEntry, IsLeastValue}
-use Rattle.map_search.specs.Index.{quad_at, no_quad, kept, first_of, second_of, value_of, entry_for, IsTableOf, asked_by, first_asked, second_asked, gives, meets_in}
+use Rattle.map_search.specs.Index.{quad_at, kept, first_of, second_of, value_of, entry_for, IsTableOf, asked_by, first_asked, second_asked, gives, meets_in}
 
 -- ---- lists
-
-pub any_quad : (xs : List Quad) (k : ℕ) (d e : Quad) → k < length xs → get_or xs k d ≡ get_or xs k e
-any_quad [] k d e l = absurd (omega arith)
-any_quad (x ∷ xs) zero d e l = refl
-any_quad (x ∷ xs) (suc k) d e l = any_quad xs k d e (omega arith)
-
-In-entry : (xs : List Entry) (k : ℕ) → k < length xs → In (entry_at xs k) xs
-In-entry xs k l = In-at xs k (entry_at xs k) (slice_get-get_or xs k no_entry l)
-
-entry_place : (xs : List Entry) (x : Entry) → In x xs → (k : ℕ) × (k < length xs) × (entry_at xs k ≡ x)
-entry_place xs x i = (let p = place_in xs x i in (p.0, slice_get_within xs p.0 x p.1, get_or_from_slice_get xs p.0 x no_entry p.1))
 
 distinct_by_places : (xs : List Entry) → ((i j : ℕ) → i < length xs → j < length xs → entry_at xs i ≡ entry_at xs j → i ≡ j) → AreDistinct xs
 distinct_by_places [] h = tt
 distinct_by_places (x ∷ xs) h = (
-  λ i. (let p = entry_place xs x i in let e = h 0 (suc p.0) (omega arith) (let l = p.1 in omega arith) (sym p.2) in omega arith),
+  λ i. (let p = place_within xs x no_entry i in let e = h 0 (suc p.0) (omega arith) (let l = p.1 in omega arith) (sym p.2) in omega arith),
   distinct_by_places xs
       (λ i j l m e. (let s = h (suc i) (suc j) (omega arith) (omega arith) e in omega arith)),
 )
@@ -61,20 +47,16 @@ kept-In (x ∷ xs) (true ∷ bs) (suc k) l e = inr (kept-In xs bs k (omega arith
 kept-In (x ∷ xs) (false ∷ bs) zero l e = absurd (true≢false (sym e))
 kept-In (x ∷ xs) (false ∷ bs) (suc k) l e = kept-In xs bs k (omega arith) e
 
-module _ (p : Quad → Bool) where
-  some_passes : (xs : List Quad) → list_any p xs ≡ true → (q : Quad) × In q xs × (p q ≡ true)
+module _ {A : Type 0} (p : A → Bool) where
+  pub some_passes : (xs : List A) → list_any p xs ≡ true → (q : A) × In q xs × (p q ≡ true)
   some_passes [] e = absurd (true≢false (sym e))
   some_passes (x ∷ xs) e = by (p x) refl e (some_passes xs)
     where
-      by : (b : Bool) → p x ≡ b → (b || list_any p xs) ≡ true → (list_any p xs ≡ true → (q : Quad) × In q xs × (p q ≡ true)) → (q : Quad) × In q (x ∷ xs) × (p q ≡ true)
+      by : (b : Bool) → p x ≡ b → (b || list_any p xs) ≡ true → (list_any p xs ≡ true → (q : A) × In q xs × (p q ≡ true)) → (q : A) × In q (x ∷ xs) × (p q ≡ true)
       by true f e ih = (x, inl refl, f)
       by false f e ih = (let r = ih e in (r.0, inr r.1, r.2))
 
-  or_right : (a b : Bool) → b ≡ true → (a || b) ≡ true
-  or_right true b e = refl
-  or_right false b e = e
-
-  passes_some : (xs : List Quad) (q : Quad) → In q xs → p q ≡ true → list_any p xs ≡ true
+  pub passes_some : (xs : List A) (q : A) → In q xs → p q ≡ true → list_any p xs ≡ true
   passes_some [] q i e = absurd i
   passes_some (x ∷ xs) q (inl f) e = (let g : p x ≡ true = ap p (sym f) ∙ e in rw g refl)
   passes_some (x ∷ xs) q (inr i) e = or_right (p x) (list_any p xs) (passes_some xs q i e)
@@ -85,19 +67,19 @@ module _ (asked : Asked) (quads : List Quad) (live : List Bool) where
   pub table_from_build : (es : List Entry) (t : TableView) → length es ≡ length quads → ((k : ℕ) → k < length quads → entry_at es k ≡ entry_for asked (quad_at quads k) k) → Permutes es t.entries
       → ((k : ℕ) → k < length t.entries → mark_at t.marks k ≡ true) → ((k : ℕ) → k < length quads → mark_at live k ≡ true) → IsTableOf asked quads live t
   table_from_build es t count each permutes marks all = record {
-    only = λ e l. (let o = one e l in (o.1, o.2));
-    all = λ k l. In-Permutes (entry_for asked (quad_at quads k) k) permutes (subst (λ x. In x es) (each k l) (In-entry es k (omega arith)));
-    marked = λ e l. (let o = one e l in marks e l ∙ sym (all (entry_at t.entries e).quad o.1));
+    only = one;
+    all = λ k l. In-Permutes (entry_for asked (quad_at quads k) k) permutes (subst (λ x. In x es) (each k l) (In-get_or es k no_entry (omega arith)));
+    marked = λ e l. marks e l ∙ sym (all (entry_at t.entries e).quad (one e l).0);
   }
     where
       one : (e : ℕ) → e < length t.entries
-          → Unit {0} × ((entry_at t.entries e).quad < length quads) × (entry_at t.entries e ≡ entry_for asked (quad_at quads (entry_at t.entries e).quad) (entry_at t.entries e).quad)
+          → ((entry_at t.entries e).quad < length quads) × (entry_at t.entries e ≡ entry_for asked (quad_at quads (entry_at t.entries e).quad) (entry_at t.entries e).quad)
       one e l =
-          let p = entry_place es (entry_at t.entries e) (In-Permutes (entry_at t.entries e) (Permutes-sym permutes) (In-entry t.entries e l)) in
+          let p = place_within es (entry_at t.entries e) no_entry (In-Permutes (entry_at t.entries e) (Permutes-sym permutes) (In-get_or t.entries e no_entry l)) in
           let inside : p.0 < length quads = (let a = p.1 in omega arith) in
           let is : entry_at t.entries e ≡ entry_for asked (quad_at quads p.0) p.0 = sym p.2 ∙ each p.0 inside in
           let k : (entry_at t.entries e).quad ≡ p.0 = ap (λ (x : Entry). x.quad) is in
-          (tt, subst (λ w. w < length quads) (sym k) inside, subst (λ w. entry_at t.entries e ≡ entry_for asked (quad_at quads w) w) (sym k) is)
+          (subst (λ w. w < length quads) (sym k) inside, subst (λ w. entry_at t.entries e ≡ entry_for asked (quad_at quads w) w) (sym k) is)
 
   pub table_set : (t new : TableView) (place : ℕ) (there : Bool) (entry : Entry) → IsTableOf asked quads live t → place < length live → entry ≡ entry_for asked (quad_at quads place) place
       → new.entries ≡ t.entries → ((k : ℕ) → k < length t.entries → entry_at t.entries k ≡ entry → mark_at new.marks k ≡ there)
@@ -107,15 +89,9 @@ module _ (asked : Asked) (quads : List Quad) (live : List Bool) where
         (is.only e (subst (λ (xs : List Entry). e < length xs) same l));
     all = λ k l. subst (λ (xs : List Entry). In (entry_for asked (quad_at quads k) k) xs) (sym same) (is.all k l);
     marked = λ e l. subst (λ (xs : List Entry). mark_at new.marks e ≡ mark_at (slice_set live place there) (entry_at xs e).quad) (sym same)
-        (by e (subst (λ (xs : List Entry). e < length xs) same l) (decide (entry_at t.entries e).quad place));
+        (by e (subst (λ (xs : List Entry). e < length xs) same l) (cases_eq (entry_at t.entries e).quad place));
   }
     where
-      decide : (a b : ℕ) → (a ≡ b) ⊎ (a ≡ b → ⊥)
-      decide a b = elim (three a b) [ inl l ↦ inr (λ e. omega arith) | inr r ↦ elim r [ inl e ↦ inl e | inr g ↦ inr (λ e. omega arith) ] ]
-        where
-          three : (a b : ℕ) → (a < b) ⊎ ((a ≡ b) ⊎ (b < a))
-          three a b = grind arith
-
       by : (e : ℕ) → e < length t.entries → ((entry_at t.entries e).quad ≡ place) ⊎ ((entry_at t.entries e).quad ≡ place → ⊥)
           → mark_at new.marks e ≡ mark_at (slice_set live place there) (entry_at t.entries e).quad
       by e l (inl f) =
@@ -133,12 +109,7 @@ module _ (asked : Asked) (quads : List Quad) (live : List Bool) where
         let c : value_of asked (quad_at quads (entry_at t.entries h.place).quad) ≡ v = sym (ap (λ (x : Entry). x.value) o.1) ∙ h.value_is in
         passes_some (gives asked first second v) (kept quads live) (quad_at quads (entry_at t.entries h.place).quad)
         (kept-In quads live (entry_at t.entries h.place).quad o.0 (sym (is.marked h.place h.within) ∙ h.marked))
-        (all_three (first_of asked (quad_at quads (entry_at t.entries h.place).quad) == first) (second_of asked (quad_at quads (entry_at t.entries h.place).quad) == second)
-        (value_of asked (quad_at quads (entry_at t.entries h.place).quad) == v) (eq-eqb (first_of asked (quad_at quads (entry_at t.entries h.place).quad)) first a)
-        (eq-eqb (second_of asked (quad_at quads (entry_at t.entries h.place).quad)) second b) (eq-eqb (value_of asked (quad_at quads (entry_at t.entries h.place).quad)) v c))
-      where
-        all_three : (x y z : Bool) → x ≡ true → y ≡ true → z ≡ true → (x && (y && z)) ≡ true
-        all_three x y z e f g = rw (e, f, g) refl
+        (and_from _ _ (eq-eqb _ first a) (and_from _ _ (eq-eqb _ second b) (eq-eqb _ v c)))
 
     pub gives_has : (v : ℕ) → list_any (gives asked first second v) (kept quads live) ≡ true → HasEntry t first second v
     gives_has v e = by (some_passes (gives asked first second v) (kept quads live) e)
@@ -154,7 +125,7 @@ module _ (asked : Asked) (quads : List Quad) (live : List Bool) where
 
             at_entry : ((k : ℕ) × (k < length quads) × (quad_at quads k ≡ r.0) × (mark_at live k ≡ true)) → HasEntry t first second v
             at_entry k =
-                let j = entry_place t.entries (entry_for asked (quad_at quads k.0) k.0) (is.all k.0 k.1) in
+                let j = place_within t.entries (entry_for asked (quad_at quads k.0) k.0) no_entry (is.all k.0 k.1) in
                 record {
                   place = j.0;
                   within = j.1;
@@ -165,11 +136,9 @@ module _ (asked : Asked) (quads : List Quad) (live : List Bool) where
                 }
 
 value_within : (asked : Asked) (q : Quad) (terms : ℕ) → (q.s < terms) × (q.o < terms) → value_of asked q < terms
-value_within AsSubject q terms r = r.0
 value_within AsObject q terms r = r.1
-value_within AsBoth q terms r = r.0
-value_within AsSomeSubject q terms r = r.0
 value_within AsSomeObject q terms r = r.1
+value_within asked q terms r = r.0
 
 -- ---- what is found for a condition
 
@@ -209,11 +178,7 @@ module _ (H : List Quad) (images : List ℕ) where
   finds : (asked : Asked) (first second t : ℕ) (q : Quad) → In q H → first_of asked q ≡ first → second_of asked q ≡ second → value_of asked q ≡ t → list_any (gives asked first second t) H ≡ true
   finds asked first second t q i a b c =
       passes_some (gives asked first second t) H q i
-      (all_three (first_of asked q == first) (second_of asked q == second) (value_of asked q == t) (eq-eqb (first_of asked q) first a) (eq-eqb (second_of asked q) second b)
-      (eq-eqb (value_of asked q) t c))
-    where
-      all_three : (x y z : Bool) → x ≡ true → y ≡ true → z ≡ true → (x && (y && z)) ≡ true
-      all_three x y z e f g = rw (e, f, g) refl
+      (and_from _ _ (eq-eqb _ first a) (and_from _ _ (eq-eqb _ second b) (eq-eqb _ t c)))
 
   one_both : (q : Quad) → second_of AsBoth q ≡ 1 → q.s ≡ q.o
   one_both q e = by (q.s == q.o) refl e
@@ -241,8 +206,14 @@ module _ (H : List Quad) (images : List ℕ) where
     λ m. finds AsBoth p 1 t m.triple m.there m.p_is
         (both_one m.triple (m.s_is ∙ sym m.o_is)) m.s_is,
   )
-  tells (SomeSubject p) t = (λ e. (let r = found_by AsSomeSubject p 0 t e in (r.0.o, record { triple = r.0; there = r.1; s_is = r.4; p_is = r.2; o_is = refl })), λ m. finds AsSomeSubject p 0 t m.1.triple m.1.there m.1.p_is refl m.1.s_is)
-  tells (SomeObject p) t = (λ e. (let r = found_by AsSomeObject p 0 t e in (r.0.s, record { triple = r.0; there = r.1; s_is = refl; p_is = r.2; o_is = r.4 })), λ m. finds AsSomeObject p 0 t m.1.triple m.1.there m.1.p_is refl m.1.o_is)
+  tells (SomeSubject p) t = (
+    λ e. (let r = found_by AsSomeSubject p 0 t e in (r.0.o, record { triple = r.0; there = r.1; s_is = r.4; p_is = r.2; o_is = refl })),
+    λ m. finds AsSomeSubject p 0 t m.1.triple m.1.there m.1.p_is refl m.1.s_is,
+  )
+  tells (SomeObject p) t = (
+    λ e. (let r = found_by AsSomeObject p 0 t e in (r.0.s, record { triple = r.0; there = r.1; s_is = refl; p_is = r.2; o_is = r.4 })),
+    λ m. finds AsSomeObject p 0 t m.1.triple m.1.there m.1.p_is refl m.1.o_is,
+  )
 
 pub index_tells : (H : List Quad) (terms : ℕ) → ((q : Quad) → In q H → (q.s < terms) × (q.o < terms)) → ((q : Quad) → In q H → q.g ≡ None) → TellsMeets H terms (meets_in H)
 index_tells H terms bounded unnamed = record { tells = tells H; bounded = bounded; unnamed = unnamed }

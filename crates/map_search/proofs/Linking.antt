@@ -1,5 +1,5 @@
 -- A map of the nodes of a pattern, as the list of their images.
-use Rattle.std.proofs.Common.{◌≡◌, ℕ, zero, suc, ◌+◌, ◌<◌, ◌≤◌, ◌⊎◌, ◌↔◌, Bool, true, false, ◌&&◌, List, [], ◌∷◌, ◌++◌, length, take, map, reverse, get_or, refl, sym, ap, ◌∙◌, subst, inl, inr, arith}
+use Rattle.std.proofs.Common.{◌≡◌, ℕ, zero, suc, ◌<◌, ◌≤◌, Bool, true, List, [], ◌∷◌, length, take, map, reverse, get_or, refl, sym, ap, ◌∙◌, subst, inl, inr, arith}
 use Rattle.std.specs.List.{list_all}
 use Rattle.std.proofs.lemmas.List.{get_or-take, get_or-map, length-map, length-take-le, reverse-append, reverse-reverse}
 use Rattle.std.proofs.Math.Seq.{take-suc, take-length}
@@ -12,7 +12,7 @@ use Rattle.map_search.specs.declared.rows.Condition.TheVariants.{Subject, Object
 use Rattle.map_search.specs.Maps.{FitBackwards, IsMap}
 use Rattle.map_search.specs.Rows.{meets_all}
 use Rattle.std.specs.Cmp.Derive.{both_true}
-use Rattle.map_search.specs.Pattern.{carried, IsNodeMap, TouchesOneOf, end_at, Stands, Meets, IsOtherEnd, IsAsked, IsAskedOf, row_at, AreRows, TellsMeets, fits_rows, EachIsAsked}
+use Rattle.map_search.specs.Pattern.{carried, IsNodeMap, end_at, Meets, IsOtherEnd, IsAskedOf, row_at, AreRows, TellsMeets, fits_rows, EachIsAsked}
 
 all_from_each : {X : Type 0} (p : X → Bool) (xs : List X) → ((x : X) → In x xs → p x ≡ true) → list_all p xs ≡ true
 all_from_each p [] h = refl

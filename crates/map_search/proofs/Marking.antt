@@ -1,5 +1,5 @@
 -- The next mark, by the marks of each two places.
-use Rattle.std.proofs.Common.{◌≡◌, ℕ, zero, suc, ◌+◌, ◌-◌, ◌*◌, ◌/◌, ◌%◌, ◌^◌, ◌<◌, ◌≤◌, ◌⊎◌, Bool, true, false, ◌||◌, List, length, refl, sym, ap, ◌∙◌, subst, inl, inr, arith, true≢false}
+use Rattle.std.proofs.Common.{◌≡◌, ℕ, zero, suc, ◌+◌, ◌-◌, ◌*◌, ◌/◌, ◌%◌, ◌^◌, ◌<◌, ◌≤◌, ◌⊎◌, Bool, true, false, ◌||◌, List, length, refl, sym, ap, ◌∙◌, inl, inr, arith, true≢false}
 use Rattle.map_search.specs.Marks.{mark_at, AreAbove, IsNextMark, NoMark}
 
 two_cases : (at k : ℕ) → at ≤ k → k < 2 * (at / 2 + 1) → (k ≡ at) ⊎ ((k ≡ at + 1) × (at % 2 ≡ 0))

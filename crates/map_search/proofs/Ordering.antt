@@ -1,6 +1,6 @@
 -- The order of entries.
-use Rattle.std.proofs.Common.{◌≡◌, ℕ, zero, suc, ◌+◌, ◌<◌, ◌≤◌, ◌⊎◌, ◌==◌, Bool, true, false, ◌||◌, ◌&&◌, cond, List, [], ◌∷◌, length, get_or, Some, refl, sym, ap, ◌∙◌, subst, inl, inr, arith, true≢false, nat_lt, eq-eqb}
-use Rattle.std.proofs.lemmas.Bool.{eqb-true, ltb-true, lt-ltb}
+use Rattle.std.proofs.Common.{◌≡◌, ℕ, ◌+◌, ◌<◌, ◌≤◌, ◌⊎◌, ◌==◌, Bool, true, false, ◌||◌, ◌&&◌, cond, List, length, Some, refl, sym, ap, ◌∙◌, subst, inl, inr, arith, true≢false, nat_lt, eq-eqb}
+use Rattle.std.proofs.lemmas.Bool.{eqb-true, false_from_ne_true, ltb-true, lt-ltb}
 use Rattle.std.proofs.lemmas.Bool.Decides.{nat_tests}
 use Rattle.std.proofs.lemmas.Option.{slice_get-get_or, slice_get_within, get_or_from_slice_get}
 use Rattle.std.specs.List.{slice_get}
@@ -11,9 +11,7 @@ use Rattle.std.specs.Cmp.{IsTotalOrder}
 use Rattle.std.specs.List.Sorted.{IsSorted, IsPermutation}
 use Rattle.std.proofs.lemmas.Cmp.{nat_cmp_total, then_total, on_total}
 use Rattle.std.proofs.lemmas.List.Sorted.{ranks_by, sorted_far}
-use Rattle.rdf_terms.specs.Lists.{In, AreDistinct, Permutes}
-use Rattle.rdf_terms.proofs.Membership.{one_place, place_in}
-use Rattle.rdf_terms.proofs.Permutations.{Permutes-from_IsPermutation, AreDistinct-Permutes}
+use Rattle.rdf_terms.proofs.Common.{In, AreDistinct, one_place, place_in, Permutes-from_IsPermutation, AreDistinct-Permutes}
 use Rattle.map_search.specs.declared.table.Entry.{Entry}
 use Rattle.map_search.specs.Table.{is_before, entry_at, no_entry, AreInOrder, IsStart}
 
@@ -64,14 +62,10 @@ before-itself a = itself_step a.first _ (itself_step a.second _ (itself_step a.v
 tied_step : (x y : ℕ) (p q : Bool) → (nat_lt x y || ((x == y) && p)) ≡ false → (nat_lt y x || ((y == x) && q)) ≡ false → (x ≡ y) × (p ≡ false) × (q ≡ false)
 tied_step x y p q h k =
     let e : x ≡ y = three x y (λ l. true≢false (sym (of_step x y p (inl l)) ∙ h)) (λ l. true≢false (sym (of_step y x q (inl l)) ∙ k)) in
-    (e, not_true p (λ f. true≢false (sym (of_step x y p (inr (e, f))) ∙ h)), not_true q (λ f. true≢false (sym (of_step y x q (inr (sym e, f))) ∙ k)))
+    (e, false_from_ne_true p (λ f. true≢false (sym (of_step x y p (inr (e, f))) ∙ h)), false_from_ne_true q (λ f. true≢false (sym (of_step y x q (inr (sym e, f))) ∙ k)))
   where
     three : (x y : ℕ) → (¬ (x < y)) → (¬ (y < x)) → x ≡ y
     three x y n m = grind arith
-
-    not_true : (b : Bool) → (¬ (b ≡ true)) → b ≡ false
-    not_true true n = absurd (n refl)
-    not_true false n = refl
 
 pub tied : (a b : Entry) → is_before a b ≡ false → is_before b a ≡ false → a ≡ b
 tied a b h k =
@@ -187,8 +181,3 @@ module _ (xs : List Entry) (order : AreInOrder xs) (sought : Entry) where
 
       three : (¬ (i < j)) → (¬ (j < i)) → i ≡ j
       three n m = grind arith
-
-pub any_default : (xs : List Entry) (k : ℕ) (d e : Entry) → k < length xs → get_or xs k d ≡ get_or xs k e
-any_default [] k d e l = absurd (omega arith)
-any_default (x ∷ xs) zero d e l = refl
-any_default (x ∷ xs) (suc k) d e l = any_default xs k d e (omega arith)

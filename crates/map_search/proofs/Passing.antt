@@ -1,15 +1,12 @@
 -- One condition after the other moves a number on.
-use Rattle.std.proofs.Common.{◌≡◌, ℕ, zero, suc, ◌+◌, ◌<◌, ◌≤◌, ◌⊎◌, Bool, true, false, ◌&&◌, List, [], ◌∷◌, length, take, get_or, refl, sym, ap, ◌∙◌, subst, inl, inr, arith, true≢false}
+use Rattle.std.proofs.Common.{◌≡◌, ℕ, zero, suc, ◌+◌, ◌<◌, ◌≤◌, ◌⊎◌, Bool, true, false, List, [], ◌∷◌, length, take, get_or, refl, sym, ◌∙◌, subst, inl, inr, arith, true≢false}
 use Rattle.std.specs.List.{list_all}
 use Rattle.std.proofs.lemmas.List.Folds.{list_all_more, list_all_at}
-use Rattle.std.proofs.lemmas.Bool.{and_parts}
+use Rattle.std.proofs.lemmas.Bool.{and_parts, cases_lt}
 use Rattle.map_search.specs.Maps.{IsNext, NoneFits}
 use Rattle.map_search.specs.Rows.{meets_all}
 use Rattle.std.specs.Cmp.Derive.{both_true}
 use Rattle.map_search.specs.declared.rows.Condition.{Condition}
-
-three : (x y : ℕ) → (x < y) ⊎ ((x ≡ y) ⊎ (y < x))
-three x y = grind arith
 
 all_take : {X : Type 0} (p : X → Bool) (xs : List X) (i : ℕ) → list_all p xs ≡ true → list_all p (take i xs) ≡ true
 all_take p xs zero h = refl
@@ -30,14 +27,14 @@ module _ (bound : ℕ) (meets : Condition → ℕ → Bool) (row : List Conditio
 
   module _ (next : ℕ) (n : IsNext bound (meets (get_or row i d)) at next) where
     pub least_on : (s : ℕ) → from ≤ s → s < bound → meets_all meets (take (i + 1) row) s ≡ true → next ≤ s
-    least_on s a b h = by (three s next)
+    least_on s a b h = by (cases_lt s next)
       where
         parts : (list_all (λ c. meets c s) (take i row) ≡ true) × (meets (get_or row i d) s ≡ true)
         parts = and_parts (list_all (λ c. meets c s) (take i row)) (meets (get_or row i d) s) (sym (list_all_more (λ c. meets c s) row i d within) ∙ h)
 
-        by : (s < next) ⊎ ((s ≡ next) ⊎ (next < s)) → next ≤ s
+        by : (s < next) ⊎ (next ≤ s) → next ≤ s
         by (inl l) = absurd (n.least s (least s a b parts.0) l parts.1)
-        by (inr o) = elim o [ inl e ↦ omega arith | inr l ↦ omega arith ]
+        by (inr l) = l
 
     pub stays_on : from ≤ at → (at ≡ from → meets_all meets (take i row) from ≡ true) → next ≡ from → meets_all meets (take (i + 1) row) from ≡ true
     stays_on behind stays e =

@@ -1,15 +1,13 @@
 -- The maps that a search goes through are exactly those that fit.
-use Rattle.std.proofs.Common.{◌≡◌, ℕ, zero, suc, ◌+◌, ◌-◌, ◌<◌, ◌≤◌, ◌⊎◌, ◌==◌, Bool, true, false, if◌then◌else◌, List, [], ◌∷◌, ◌++◌, length, reverse, map, All, refl, sym, ap, ◌∙◌, subst, inl, inr, arith, true≢false, eq-eqb}
+use Rattle.std.proofs.Common.{◌≡◌, ℕ, zero, suc, ◌+◌, ◌<◌, ◌≤◌, ◌⊎◌, ◌==◌, Bool, true, false, if◌then◌else◌, List, [], ◌∷◌, ◌++◌, length, reverse, refl, sym, ap, ◌∙◌, subst, inl, inr, arith, true≢false, eq-eqb}
 use Rattle.std.proofs.lemmas.Bool.{eqb-true}
-use Rattle.std.proofs.lemmas.List.{reverse-reverse, length-reverse, length-map}
-use Rattle.rdf_terms.specs.Lists.{In, AreDistinct}
-use Rattle.rdf_terms.proofs.Membership.{In-append, In-append_left, In-append_right, In-map, from_In-map}
+use Rattle.rdf_terms.proofs.Common.{In, In-append, In-append_left, In-append_right}
 use Rattle.map_search.specs.Maps.{FitBackwards}
 use Rattle.map_search.proofs.Tree.{branches, visits, visits-first}
-use Rattle.rdf_terms.proofs.MadeLists.{All-from_each}
 
 module _ (bound : ℕ) (fits : List ℕ → ℕ → Bool) where
-  pub from_branches : (sub : List ℕ → List (List ℕ)) (path q : List ℕ) (from left : ℕ) → In q (branches bound fits sub path from left) → (s : ℕ) × (from ≤ s) × (s < from + left) × (fits (reverse path) s ≡ true) × In q (sub (s ∷ path))
+  pub from_branches : (sub : List ℕ → List (List ℕ)) (path q : List ℕ) (from left : ℕ) → In q (branches bound fits sub path from left)
+      → (s : ℕ) × (from ≤ s) × (s < from + left) × (fits (reverse path) s ≡ true) × In q (sub (s ∷ path))
   unfolding branches
   from_branches sub path q from zero h = absurd h
   from_branches sub path q from (suc left) h =

@@ -1,5 +1,5 @@
 -- The steps of a search, over the images in the order of their places.
-use Rattle.std.proofs.Common.{◌≡◌, ℕ, suc, ◌+◌, ◌<◌, ◌≤◌, Bool, true, false, List, [], ◌∷◌, ◌++◌, length, reverse, refl, sym, ap, ◌∙◌, subst, arith, add-one}
+use Rattle.std.proofs.Common.{◌≡◌, ℕ, suc, ◌+◌, ◌<◌, ◌≤◌, Bool, true, false, List, [], ◌∷◌, ◌++◌, length, reverse, sym, ap, ◌∙◌, subst, arith, add-one}
 use Rattle.std.proofs.lemmas.List.{reverse-append, reverse-reverse, length-reverse}
 use Rattle.rdf_terms.specs.Lists.{In}
 use Rattle.map_search.specs.Maps.{IsMap, IsNext, NoneFits}
@@ -23,7 +23,8 @@ module _ (bound : ℕ) (fits : List ℕ → ℕ → Bool) (places : ℕ) (sought
   at_start images e some = subst (λ w. State w 0 1) (sym e) (start bound fits places sought some)
 
   -- a sought map, by its path
-  sought_path : (other : List ℕ) → IsSought bound fits places sought other → In (reverse other) (visits bound fits places []) × (length (reverse other) ≡ places) × (sought (reverse (reverse other)) ≡ true)
+  sought_path : (other : List ℕ) → IsSought bound fits places sought other → In (reverse other) (visits bound fits places []) × (length (reverse other) ≡ places)
+      × (sought (reverse (reverse other)) ≡ true)
   sought_path other s =
       let k : length (reverse other) ≡ length other = length-reverse other in
       let w : length other ≡ places = s.whole in
@@ -35,8 +36,8 @@ module _ (bound : ℕ) (fits : List ℕ → ℕ → Bool) (places : ℕ) (sought
       more_with_next bound fits places sought [] [] first.0 first.1 (λ other s. subst (λ w. In (reverse other) w) first.1 (sought_path other s).0) limit e
 
   module _ (images : List ℕ) (from tried : ℕ) (u : State images from tried) where
-    pub room : length images < places
-    room = let e = u.places_are in let k : length (reverse images) ≡ length images = length-reverse images in omega arith
+    pub short : length images < places
+    short = let e = u.places_are in let k : length (reverse images) ≡ length images = length-reverse images in omega arith
 
     backwards : (t : ℕ) → IsNext bound (fits images) from t → IsNext bound (fits (reverse (reverse images))) from t
     backwards t n = subst (λ w. IsNext bound (fits w) from t) (sym (reverse-reverse images)) n
@@ -49,7 +50,7 @@ module _ (bound : ℕ) (fits : List ℕ → ℕ → Bool) (places : ℕ) (sought
     pushed_is_map t n = let b = backwards t n in rw (reverse-push images t) (u.fit, b.within, b.fit)
 
     pub go_deeper : (t : ℕ) → IsNext bound (fits images) from t → suc (length images) < places → State (images ++ t ∷ []) 0 (tried + 1)
-    go_deeper t n room =
+    go_deeper t n short =
         let k : length (reverse images) ≡ length images = length-reverse images in
         subst (λ w. Underway bound fits places sought w 0 (tried + 1)) (sym (reverse-push images t)) (deeper bound fits places sought (reverse images) from tried u t (backwards t n) (omega arith))
 
@@ -68,7 +69,8 @@ module _ (bound : ℕ) (fits : List ℕ → ℕ → Bool) (places : ℕ) (sought
     at_next : (t : ℕ) → IsNext bound (fits images) from t → Next t
     at_next t n =
         let first = visits-first bound fits u.r (t ∷ reverse images) in
-        let e : pending bound fits u.r (reverse images) from ≡ (t ∷ reverse images) ∷ (first.0 ++ pending bound fits u.r (reverse images) (suc t)) = pending-next bound fits u.r (reverse images) from t (backwards t n) ∙ ap (λ w. w ++ pending bound fits u.r (reverse images) (suc t)) first.1 in
+        let e : pending bound fits u.r (reverse images) from ≡ (t ∷ reverse images) ∷ (first.0 ++ pending bound fits u.r (reverse images) (suc t)) = pending-next bound fits u.r (reverse images) from t
+        (backwards t n) ∙ ap (λ w. w ++ pending bound fits u.r (reverse images) (suc t)) first.1 in
         record {
           rest = first.0 ++ pending bound fits u.r (reverse images) (suc t);
           split = u.split ∙ ap (λ w. u.done ++ w) e;
@@ -80,7 +82,8 @@ module _ (bound : ℕ) (fits : List ℕ → ℕ → Bool) (places : ℕ) (sought
         let a = at_next t n in
         more_with_next bound fits places sought u.done (t ∷ reverse images) a.rest a.split a.left limit (sym e ∙ sym u.count)
 
-    pub found : (t limit : ℕ) → IsNext bound (fits images) from t → tried < limit → suc (length images) ≡ places → sought (images ++ t ∷ []) ≡ true → IsFound bound fits places sought limit (images ++ t ∷ [])
+    pub found : (t limit : ℕ) → IsNext bound (fits images) from t → tried < limit → suc (length images) ≡ places → sought (images ++ t ∷ []) ≡ true
+        → IsFound bound fits places sought limit (images ++ t ∷ [])
     found t limit n few whole s =
         let a = at_next t n in
         let e : reverse (t ∷ reverse images) ≡ images ++ t ∷ [] = ap reverse (sym (reverse-push images t)) ∙ reverse-reverse (images ++ t ∷ []) in

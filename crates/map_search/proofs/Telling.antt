@@ -1,17 +1,17 @@
 -- A map of a component into its graph that has each node as an image reaches each triple.
-use Rattle.std.proofs.Common.{◌≡◌, ℕ, suc, ◌+◌, ◌<◌, ◌≤◌, ◌⊎◌, ◌==◌, Bool, true, false, not, ◌||◌, ◌&&◌, List, [], ◌∷◌, length, map, filter, refl, sym, ap, ◌∙◌, subst, inl, inr, arith, true≢false, eq-eqb}
+use Rattle.std.proofs.Common.{◌≡◌, ℕ, ◌≤◌, ◌⊎◌, ◌==◌, true, false, not, List, [], ◌∷◌, length, map, refl, sym, ap, ◌∙◌, subst, inl, inr, arith, true≢false}
 use Rattle.std.specs.List.{list_all, list_any}
 use Rattle.std.proofs.lemmas.Bool.{eqb-true}
 use Rattle.std.proofs.lemmas.List.{length-map}
-use Rattle.rdf_terms.specs.Lists.{In, AreDistinct}
-use Rattle.std.proofs.lemmas.Bool.{and_parts, or_right}
+use Rattle.rdf_terms.proofs.Common.{In, AreDistinct, In-map, from_In-map, AreDistinct-map, decide_in}
+use Rattle.std.proofs.lemmas.Bool.{and_parts, not-false}
 use Rattle.std.specs.Cmp.Derive.{both_true}
-use Rattle.rdf_terms.proofs.Membership.{In-map, from_In-map}
 use Rattle.rdf_terms.specs.declared.term.Quad.{Quad}
-use Rattle.map_search.specs.Pattern.{carried, IsNodeMap, TouchesOneOf, IsReachedBy, Misses, ReachesAll, TellsMisses, misses_node}
+use Rattle.map_search.specs.Pattern.{carried, IsNodeMap, Misses, ReachesAll, TellsMisses, misses_node}
 use Rattle.map_search.specs.Laws.{IsInTriple}
-use Rattle.rdf_terms.proofs.MadeLists.{AreDistinct-map}
 use Rattle.graph_model.proofs.Counting.{without, length-without}
+use Rattle.graph_model.proofs.Maps.{eqb-itself}
+use Rattle.map_search.proofs.Indexing.{some_passes, passes_some}
 
 -- ---- lists that are no longer than a part of theirs
 
@@ -66,28 +66,11 @@ injective_on m (x ∷ xs) d a b (inr i) (inr j) e = injective_on m xs d.1 a b i 
 
 -- ---- tests of membership
 
-is_in : ℕ → List ℕ → Bool
-is_in x xs = list_any (λ i. i == x) xs
-
 pub is_in-true : (x : ℕ) (xs : List ℕ) → list_any (λ i. i == x) xs ≡ true → In x xs
-is_in-true x [] h = absurd (true≢false (sym h))
-is_in-true x (y ∷ ys) h = by (y == x) refl h (is_in-true x ys)
-  where
-    by : (b : Bool) → (y == x) ≡ b → (b || list_any (λ i. i == x) ys) ≡ true → (list_any (λ i. i == x) ys ≡ true → In x ys) → In x (y ∷ ys)
-    by true e h ih = inl (sym (eqb-true y x e))
-    by false e h ih = inr (ih h)
+is_in-true x xs h = (let p = some_passes (λ i. i == x) xs h in subst (λ z. In z xs) (eqb-true p.0 x p.2) p.1)
 
 pub is_in-from : (x : ℕ) (xs : List ℕ) → In x xs → list_any (λ i. i == x) xs ≡ true
-is_in-from x [] h = absurd h
-is_in-from x (y ∷ ys) (inl e) = ap (λ b. b || list_any (λ i. i == x) ys) (eq-eqb y x (sym e))
-is_in-from x (y ∷ ys) (inr h) = or_right (y == x) (list_any (λ i. i == x) ys) (is_in-from x ys h)
-
-decide_in : (x : ℕ) (xs : List ℕ) → In x xs ⊎ (¬ (In x xs))
-decide_in x xs = by (list_any (λ i. i == x) xs) refl
-  where
-    by : (b : Bool) → list_any (λ i. i == x) xs ≡ b → In x xs ⊎ (¬ (In x xs))
-    by true e = inl (is_in-true x xs e)
-    by false e = inr (λ i. true≢false (sym (is_in-from x xs i) ∙ e))
+is_in-from x xs i = passes_some (λ i. i == x) xs x i (eqb-itself x)
 
 -- some node is no image, or each is one
 found_missing : (images nodes : List ℕ) → ((x : ℕ) × In x nodes × (¬ (In x images))) ⊎ ((x : ℕ) → In x nodes → In x images)
@@ -120,6 +103,19 @@ module _ (H : List Quad) (nodes : List ℕ) (m : ℕ → ℕ) (is_map : IsNodeMa
       unreached : ((q : Quad) × In q H × (t.triple ≡ carried m q)) → ⊥
       unreached p = elim t.end [ inl e ↦ n (from_node x p.0.s i (e ∙ ap (λ q. q.s) p.2)) | inr e ↦ n (from_node x p.0.o i (e ∙ ap (λ q. q.o) p.2)) ]
 
+  -- all triples are carried into the graph: those that touch no node are kept
+  pub into_graph : (q : Quad) → In q H → In (carried m q) H
+  into_graph q there = by (decide_in q.s nodes) (decide_in q.o nodes)
+    where
+      by : In q.s nodes ⊎ (¬ (In q.s nodes)) → In q.o nodes ⊎ (¬ (In q.o nodes)) → In (carried m q) H
+      by (inl i) d = is_map.carries q there (record { node = q.s; there = i; end = inl refl })
+      by (inr n) (inl i) = is_map.carries q there (record { node = q.o; there = i; end = inr refl })
+      by (inr n) (inr k) =
+          let s : m q.s ≡ q.s = is_map.kept q.s n in
+          let o : m q.o ≡ q.o = is_map.kept q.o k in
+          let e : carried m q ≡ q = λ i. record { s = s i; p = q.p; o = o i; g = q.g } in
+          subst (λ x. In x H) (sym e) there
+
   module _ (distinct : AreDistinct H) (once : AreDistinct nodes) (all : (x : ℕ) → In x nodes → In x (map m nodes)) where
     same_length : length (map m nodes) ≤ length nodes
     same_length = let e = length-map nodes m in omega arith
@@ -144,19 +140,6 @@ module _ (H : List Quad) (nodes : List ℕ) (m : ℕ → ℕ) (is_map : IsNodeMa
         let g : a.g ≡ b.g = ap (λ q. q.g) e in
         λ i. record { s = s i; p = p i; o = o i; g = g i }
 
-    -- all triples are carried into the graph: those that touch no node are kept
-    into_graph : (q : Quad) → In q H → In (carried m q) H
-    into_graph q there = by (decide_in q.s nodes) (decide_in q.o nodes)
-      where
-        by : In q.s nodes ⊎ (¬ (In q.s nodes)) → In q.o nodes ⊎ (¬ (In q.o nodes)) → In (carried m q) H
-        by (inl i) d = is_map.carries q there (record { node = q.s; there = i; end = inl refl })
-        by (inr n) (inl i) = is_map.carries q there (record { node = q.o; there = i; end = inr refl })
-        by (inr n) (inr k) =
-            let s : m q.s ≡ q.s = is_map.kept q.s n in
-            let o : m q.o ≡ q.o = is_map.kept q.o k in
-            let e : carried m q ≡ q = λ i. record { s = s i; p = q.p; o = o i; g = q.g } in
-            subst (λ x. In x H) (sym e) there
-
     pub reaches_all : ReachesAll H nodes m
     reaches_all q there t =
         all_within (map (carried m) H) H
@@ -172,8 +155,4 @@ nodes_tell H nodes distinct once used = record { misses = misses; reaches = reac
         elim (found_missing (map m nodes) nodes) [ inl p ↦ misses_by_node H nodes m n p.0 p.1 p.2 (used p.0 p.1) | inr a ↦ absurd (true≢false (sym e ∙ ap not (all_images (map m nodes) nodes a))) ]
 
     reaches : (m : ℕ → ℕ) → IsNodeMap H H nodes m → misses_node nodes (map m nodes) ≡ false → ReachesAll H nodes m
-    reaches m n e = reaches_all H nodes m n distinct once (each_image (map m nodes) nodes (unnot (list_all (λ x. list_any (λ i. i == x) (map m nodes)) nodes) e))
-      where
-        unnot : (b : Bool) → not b ≡ false → b ≡ true
-        unnot true h = refl
-        unnot false h = absurd (true≢false h)
+    reaches m n e = reaches_all H nodes m n distinct once (each_image (map m nodes) nodes (not-false (list_all (λ x. list_any (λ i. i == x) (map m nodes)) nodes) e))

@@ -1,5 +1,6 @@
 -- All maps of first places in the order of the search, and those that it has still to try.
-use Rattle.std.proofs.Common.{◌≡◌, ℕ, zero, suc, ◌+◌, ◌-◌, ◌<◌, ◌≤◌, ◌⊎◌, Bool, true, false, if◌then◌else◌, List, [], ◌∷◌, ◌++◌, length, reverse, refl, sym, ap, ◌∙◌, subst, inl, inr, arith, append_assoc, true≢false}
+use Rattle.std.proofs.lemmas.Bool.{cases_order}
+use Rattle.std.proofs.Common.{◌≡◌, ℕ, zero, suc, ◌+◌, ◌-◌, ◌<◌, ◌≤◌, ◌⊎◌, Bool, true, false, if◌then◌else◌, List, [], ◌∷◌, ◌++◌, reverse, refl, sym, ap, ◌∙◌, inl, inr, arith, append_assoc, true≢false}
 use Rattle.map_search.specs.Maps.{IsNext, NoneFits}
 
 module _ (bound : ℕ) (fits : List ℕ → ℕ → Bool) where
@@ -22,9 +23,6 @@ module _ (bound : ℕ) (fits : List ℕ → ℕ → Bool) where
   unfoldable pub pending : ℕ → List ℕ → ℕ → List (List ℕ)
   pending r path from = branches (visits r) path from (bound - from) ++ above r path
 
-  three : (x y : ℕ) → (x < y) ⊎ ((x ≡ y) ⊎ (y < x))
-  three x y = grind arith
-
   branches-none : (sub : List ℕ → List (List ℕ)) (path : List ℕ) (from left : ℕ) → ((s : ℕ) → from ≤ s → s < from + left → ¬ (fits (reverse path) s ≡ true)) → branches sub path from left ≡ []
   unfolding branches
   branches-none sub path from zero h = refl
@@ -39,16 +37,16 @@ module _ (bound : ℕ) (fits : List ℕ → ℕ → Bool) where
   unfolding branches
   branches-next sub path from zero t rest e le f least = absurd (omega arith)
   branches-next sub path from (suc left) t rest e le f least =
-      by (λ l. branches-next sub path (suc from) left t rest (omega arith) (omega arith) f (λ s a b. least s (omega arith) b)) (three from t) (fits (reverse path) from) refl
+      by (λ l. branches-next sub path (suc from) left t rest (omega arith) (omega arith) f (λ s a b. least s (omega arith) b)) (cases_order from t) (fits (reverse path) from) refl
     where
-      by : (from < t → branches sub path (suc from) left ≡ sub (t ∷ path) ++ branches sub path (suc t) rest) → (from < t) ⊎ ((from ≡ t) ⊎ (t < from)) → (b : Bool) → fits (reverse path) from ≡ b
+      by : (from < t → branches sub path (suc from) left ≡ sub (t ∷ path) ++ branches sub path (suc t) rest) → (from ≡ t) ⊎ ((from < t) ⊎ (t < from)) → (b : Bool) → fits (reverse path) from ≡ b
           → (if fits (reverse path) from then sub (from ∷ path) else []) ++ branches sub path (suc from) left ≡ sub (t ∷ path) ++ branches sub path (suc t) rest
-      by ih (inl l) true g = absurd (least from (omega arith) l g)
-      by ih (inl l) false g = rw g (ih l)
-      by ih (inr (inl s)) true g =
+      by ih (inr (inl l)) true g = absurd (least from (omega arith) l g)
+      by ih (inr (inl l)) false g = rw g (ih l)
+      by ih (inl s) true g =
           let same : left ≡ rest = omega arith in
           rw g (rw (s, same) refl)
-      by ih (inr (inl s)) false g = absurd (true≢false (sym f ∙ ap (fits (reverse path)) (sym s) ∙ g))
+      by ih (inl s) false g = absurd (true≢false (sym f ∙ ap (fits (reverse path)) (sym s) ∙ g))
       by ih (inr (inr l)) b g = absurd (omega arith)
 
   pub pending-next : (r : ℕ) (path : List ℕ) (from t : ℕ) → IsNext bound (fits (reverse path)) from t → pending r path from ≡ visits r (t ∷ path) ++ pending r path (suc t)

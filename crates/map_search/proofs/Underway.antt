@@ -1,5 +1,5 @@
 -- The state of a search between two steps, and what each step makes of it.
-use Rattle.std.proofs.Common.{◌≡◌, ℕ, zero, suc, ◌+◌, ◌<◌, ◌≤◌, ◌⊎◌, Bool, true, false, List, [], ◌∷◌, ◌++◌, length, reverse, refl, sym, ap, ◌∙◌, subst, inl, inr, arith, true≢false, append_assoc, length-append}
+use Rattle.std.proofs.Common.{◌≡◌, ℕ, zero, suc, ◌+◌, ◌<◌, ◌≤◌, Bool, true, false, List, [], ◌∷◌, ◌++◌, length, reverse, refl, sym, ap, ◌∙◌, subst, inl, inr, arith, true≢false, append_assoc, length-append}
 use Rattle.rdf_terms.specs.Lists.{In}
 use Rattle.map_search.specs.Maps.{FitBackwards, IsNext, NoneFits}
 use Rattle.map_search.proofs.Tree.{visits, pending, pending-next, pending-whole, pending-deeper, pending-back, pending-end, visits-start, visits-first}
@@ -45,9 +45,11 @@ module _ (bound : ℕ) (fits : List ℕ → ℕ → Bool) (places : ℕ) (sought
         omega arith
 
     pub deeper : (t : ℕ) → IsNext bound (fits (reverse path)) from t → suc (length path) < places → Underway bound fits places sought (t ∷ path) 0 (tried + 1)
-    deeper t n room = by u.r u.places_are u.split u.left
+    deeper t n short = by u.r u.places_are u.split u.left
       where
-        by : (r : ℕ) → places ≡ suc (length path + r) → visits bound fits places [] ≡ u.done ++ pending bound fits r path from → ((p : List ℕ) → In p (visits bound fits places []) → length p ≡ places → sought (reverse p) ≡ true → In p (pending bound fits r path from)) → Underway bound fits places sought (t ∷ path) 0 (tried + 1)
+        by : (r : ℕ) → places ≡ suc (length path + r) → visits bound fits places [] ≡ u.done ++ pending bound fits r path from
+            → ((p : List ℕ) → In p (visits bound fits places []) → length p ≡ places → sought (reverse p) ≡ true → In p (pending bound fits r path from))
+            → Underway bound fits places sought (t ∷ path) 0 (tried + 1)
         by zero e split left = absurd (omega arith)
         by (suc r) e split left =
             let v = pending-deeper bound fits r path from t n in
@@ -64,7 +66,9 @@ module _ (bound : ℕ) (fits : List ℕ → ℕ → Bool) (places : ℕ) (sought
     pub passed : (t : ℕ) → IsNext bound (fits (reverse path)) from t → places ≤ suc (length path) → sought (reverse (t ∷ path)) ≡ false → Underway bound fits places sought path (suc t) (tried + 1)
     passed t n full unsought = by u.r u.places_are u.split u.left
       where
-        by : (r : ℕ) → places ≡ suc (length path + r) → visits bound fits places [] ≡ u.done ++ pending bound fits r path from → ((p : List ℕ) → In p (visits bound fits places []) → length p ≡ places → sought (reverse p) ≡ true → In p (pending bound fits r path from)) → Underway bound fits places sought path (suc t) (tried + 1)
+        by : (r : ℕ) → places ≡ suc (length path + r) → visits bound fits places [] ≡ u.done ++ pending bound fits r path from
+            → ((p : List ℕ) → In p (visits bound fits places []) → length p ≡ places → sought (reverse p) ≡ true → In p (pending bound fits r path from))
+            → Underway bound fits places sought path (suc t) (tried + 1)
         by (suc r) e split left = absurd (omega arith)
         by zero e split left =
             let v = pending-whole bound fits path from t n in

@@ -1,4 +1,5 @@
--- How a search ends. Maps of first places are met in their order: a map before those that it begins, and of two that differ the one with the lesser image at the first place where they do.
+-- How a search ends. Maps of first places are met in their order: a map before those that it begins, and of two that
+-- differ the one with the lesser image at the first place where they do.
 use Rattle.std.specs.Prelude.{◌≡◌, ℕ, ◌<◌, ◌≤◌, Bool, true, false, List, length, All}
 use Rattle.rdf_terms.specs.Lists.{AreDistinct, is_before}
 use Rattle.map_search.specs.Maps.{IsMap}
@@ -13,26 +14,30 @@ pub record IsSought (bound : ℕ) (fits : List ℕ → ℕ → Bool) (places : �
   pub is_sought : sought images ≡ true
 
 -- a map of first places with no sought one before it
-pub record IsMet (bound : ℕ) (fits : List ℕ → ℕ → Bool) (places : ℕ) (sought : List ℕ → Bool) (images : List ℕ) : Type 0 where
+pub record IsMet (bound : ℕ) (fits : List ℕ → ℕ → Bool) (places : ℕ) (sought : List ℕ → Bool)
+    (images : List ℕ) : Type 0 where
   pub is_map : IsMap bound fits images
   pub within : length images ≤ places
   pub none_before : (other : List ℕ) → IsSought bound fits places sought other → is_before other images ≡ false
 
 -- more different maps are met than the limit
-pub record HasMore (bound : ℕ) (fits : List ℕ → ℕ → Bool) (places : ℕ) (sought : List ℕ → Bool) (limit : ℕ) : Type 0 where
+pub record HasMore (bound : ℕ) (fits : List ℕ → ℕ → Bool) (places : ℕ) (sought : List ℕ → Bool)
+    (limit : ℕ) : Type 0 where
   pub maps : List (List ℕ)
   pub distinct : AreDistinct maps
   pub are_met : All (IsMet bound fits places sought) maps
   pub more : limit < length maps
 
 -- the first map that is sought, and no more are met than the limit
-pub record IsFound (bound : ℕ) (fits : List ℕ → ℕ → Bool) (places : ℕ) (sought : List ℕ → Bool) (limit : ℕ) (images : List ℕ) : Type 0 where
+pub record IsFound (bound : ℕ) (fits : List ℕ → ℕ → Bool) (places : ℕ) (sought : List ℕ → Bool) (limit : ℕ)
+    (images : List ℕ) : Type 0 where
   pub is_sought : IsSought bound fits places sought images
   pub is_met : IsMet bound fits places sought images
   pub few : ¬ (HasMore bound fits places sought limit)
 
 -- no map is sought, and no more are met than the limit
-pub record IsNothing (bound : ℕ) (fits : List ℕ → ℕ → Bool) (places : ℕ) (sought : List ℕ → Bool) (limit : ℕ) : Type 0 where
+pub record IsNothing (bound : ℕ) (fits : List ℕ → ℕ → Bool) (places : ℕ) (sought : List ℕ → Bool)
+    (limit : ℕ) : Type 0 where
   pub none : (images : List ℕ) → ¬ (IsSought bound fits places sought images)
   pub few : ¬ (HasMore bound fits places sought limit)
 

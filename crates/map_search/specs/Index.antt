@@ -1,5 +1,5 @@
 -- An index of the triples of a graph, of which some have gone.
-use Rattle.std.specs.Prelude.{◌≡◌, ℕ, ◌<◌, ◌≤◌, Bool, true, false, ◌&&◌, ◌==◌, if◌then◌else◌, List, [], ◌∷◌, length, slice_index_or, None}
+use Rattle.std.specs.Prelude.{◌≡◌, ℕ, ◌<◌, ◌≤◌, Bool, ◌&&◌, ◌==◌, if◌then◌else◌, List, [], ◌∷◌, length, slice_index_or, None}
 use Rattle.std.specs.List.{list_any}
 use Rattle.rdf_terms.specs.Lists.{In}
 use Rattle.rdf_terms.specs.declared.term.Quad.{Quad}
@@ -28,25 +28,19 @@ kept (q ∷ qs) (b ∷ bs) = if b then q ∷ kept qs bs else kept qs bs
 -- ---- what is found under what
 
 abbrev pub first_of : Asked → Quad → ℕ
-first_of AsSubject q = q.p
 first_of AsObject q = q.s
-first_of AsBoth q = q.p
-first_of AsSomeSubject q = q.p
-first_of AsSomeObject q = q.p
+first_of asked q = q.p
 
 abbrev pub second_of : Asked → Quad → ℕ
 second_of AsSubject q = q.o
 second_of AsObject q = q.p
 second_of AsBoth q = if q.s == q.o then 1 else 0
-second_of AsSomeSubject q = 0
-second_of AsSomeObject q = 0
+second_of asked q = 0
 
 abbrev pub value_of : Asked → Quad → ℕ
-value_of AsSubject q = q.s
 value_of AsObject q = q.o
-value_of AsBoth q = q.s
-value_of AsSomeSubject q = q.s
 value_of AsSomeObject q = q.o
+value_of asked q = q.s
 
 abbrev pub entry_for : Asked → Quad → ℕ → Entry
 entry_for asked q k =

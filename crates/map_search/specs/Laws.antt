@@ -7,7 +7,7 @@ use Rattle.map_search.specs.declared.search.Ending.{Ending}
 use Rattle.map_search.specs.declared.search.Ending.TheVariants.{Found, Nothing, PastLimit}
 use Rattle.map_search.specs.Maps.{IsMap}
 use Rattle.map_search.specs.Ends.{IsEnding}
-use Rattle.map_search.specs.Pattern.{IsNodeMap, AreRows, EachIsAsked, TellsMeets, TellsMisses, fits_rows, map_of, Misses, ReachesAll, TouchesOneOf, misses_node, HasMoreNodeMaps, HasMoreNodeBeginnings}
+use Rattle.map_search.specs.Pattern.{IsNodeMap, AreRows, EachIsAsked, TellsMeets, TellsMisses, fits_rows, map_of, Misses, ReachesAll, misses_node, HasMoreNodeMaps, HasMoreNodeBeginnings}
 
 -- what is given of a search of some nodes of G for maps into H
 pub record IsSearch (G H : List Quad) (nodes : List ℕ) (rows : List (List Condition)) (bound : ℕ)
@@ -26,8 +26,10 @@ MapsOfRows = (G H : List Quad) (nodes : List ℕ) (rows : List (List Condition))
 
 -- what an ending of a search for a map that misses a triple means
 abbrev pub MeansOfEnding : List Quad → List ℕ → ℕ → Ending → Type 0
-MeansOfEnding H nodes limit (Found images) = IsNodeMap H H nodes (map_of nodes images.items) × Misses H nodes (map_of nodes images.items)
-MeansOfEnding H nodes limit Nothing = ((m : ℕ → ℕ) → IsNodeMap H H nodes m → ReachesAll H nodes m) × (¬ (HasMoreNodeBeginnings H nodes limit))
+MeansOfEnding H nodes limit (Found images) =
+    IsNodeMap H H nodes (map_of nodes images.items) × Misses H nodes (map_of nodes images.items)
+MeansOfEnding H nodes limit Nothing =
+    ((m : ℕ → ℕ) → IsNodeMap H H nodes m → ReachesAll H nodes m) × (¬ (HasMoreNodeBeginnings H nodes limit))
 MeansOfEnding H nodes limit PastLimit = HasMoreNodeMaps H H nodes limit
 
 abbrev pub EndingsMean : Type 0

@@ -1,14 +1,13 @@
 -- Quads by the numbers of their terms, against the triples that they stand for.
 use Rattle.std.specs.Prelude.{◌≡◌, ℕ, ◌<◌, ◌↔◌, List, map, length, None}
-use Rattle.rdf_terms.specs.Lists.{In, AreDistinct}
-use Rattle.rdf_terms.specs.Document.{statement, term_at, IsInRange}
+use Rattle.rdf_terms.specs.Vocabulary.{In, AreDistinct, statement, term_at, IsInRange}
 use Rattle.rdf_terms.specs.declared.term.Term.{Term}
 use Rattle.rdf_terms.specs.declared.term.Term.TheVariants.{Blank}
 use Rattle.rdf_terms.specs.declared.term.Quad.{Quad}
 use Rattle.graph_model.specs.Graphs.{mapped, IsReached}
 use Rattle.graph_model.specs.Components.{IsMapOf, IsTight}
 use Rattle.graph_model.specs.Counts.{HasMoreMaps, HasMoreBeginnings}
-use Rattle.map_search.specs.Pattern.{IsNodeMap, IsReachedBy, Misses, map_of}
+use Rattle.map_search.specs.Pattern.{IsReachedBy, Misses, map_of}
 use Rattle.map_search.specs.Laws.{IsInTriple, MeansOfEnding}
 use Rattle.map_search.specs.declared.search.Ending.{Ending}
 use Rattle.map_search.specs.declared.search.Ending.TheVariants.{Found, Nothing, PastLimit}
@@ -36,9 +35,12 @@ pub record IsSaidBy (terms : List Term) (H : List Quad) (walk : List ℕ) (m : �
 
 -- an ending, by terms
 abbrev pub MeansByTerms : List Term → List Quad → List ℕ → List ℕ → ℕ → Ending → Type 0
-MeansByTerms terms H nodes walk limit (Found images) = IsSaidBy terms H walk (map_of nodes images.items) × Misses H nodes (map_of nodes images.items)
-MeansByTerms terms H nodes walk limit Nothing = IsTight (map (statement terms) H) walk × (¬ (HasMoreBeginnings (map (statement terms) H) walk limit))
-MeansByTerms terms H nodes walk limit PastLimit = HasMoreMaps (map (statement terms) H) (map (statement terms) H) walk limit
+MeansByTerms terms H nodes walk limit (Found images) =
+    IsSaidBy terms H walk (map_of nodes images.items) × Misses H nodes (map_of nodes images.items)
+MeansByTerms terms H nodes walk limit Nothing =
+    IsTight (map (statement terms) H) walk × (¬ (HasMoreBeginnings (map (statement terms) H) walk limit))
+MeansByTerms terms H nodes walk limit PastLimit =
+    HasMoreMaps (map (statement terms) H) (map (statement terms) H) walk limit
 
 abbrev pub EndingsMeanByTerms : Type 0
 EndingsMeanByTerms =

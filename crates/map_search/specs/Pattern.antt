@@ -63,11 +63,9 @@ IsAsked nodes k q (SomeObject p) = (q.o ≡ slice_index nodes k) × (q.p ≡ p)
 
 -- whether the whole triple is asked
 abbrev pub IsWhole : Condition → Type 0
-IsWhole (Subject p o) = Unit {0}
-IsWhole (Object s p) = Unit {0}
-IsWhole (Both p) = Unit {0}
 IsWhole (SomeSubject p) = ⊥
 IsWhole (SomeObject p) = ⊥
+IsWhole condition = Unit {0}
 
 abbrev pub row_at : List (List Condition) → ℕ → List Condition
 row_at rows k = slice_index_or rows k []

@@ -28,7 +28,7 @@ pub record TableView : Type 0 where
 
 pub record IsTable (t : TableView) : Type 0 where
   pub in_order : AreInOrder t.entries
-  pub room : length t.entries ≤ length t.marks
+  pub enough : length t.entries ≤ length t.marks
 
 -- the entries before the place are before this one, and the others are not
 pub record IsStart (entries : List Entry) (sought : Entry) (place : ℕ) : Type 0 where

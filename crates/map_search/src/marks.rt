@@ -65,7 +65,7 @@ impl Marks {
     /// So many places, and perhaps some more, all with a mark or all with none.
     pub fn new(alloc: Global, count: usize, mark: bool) -> Result<Self, NoMemory>
         requires { count < 2 ^ 33 }
-        ensures room { IfOk result (λ m. count ≤ length m) }
+        ensures enough { IfOk result (λ m. count ≤ length m) }
         ensures all { IfOk result (λ m. (k : ℕ) → k < length m → mark_at m k ≡ mark) }
     {
         let mut width = 1;

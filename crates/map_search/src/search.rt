@@ -28,7 +28,7 @@ pub trait Problem {
 
     /// The least image from `from` on that the next place may have.
     fn next(&self, images: &[u32], from: u32) -> Option<u32>
-        requires room { length images.now < places self.now }
+        requires short { length images.now < places self.now }
         requires is_map { IsMap (bound self.now) (fits self.now) images.now }
         ensures some { IfSome result (IsNext (bound self.now) (fits self.now images.now) from) }
         ensures none { IfNone result (NoneFits (bound self.now) (fits self.now images.now) from) };

@@ -1,4 +1,4 @@
-use Rattle.std.proofs.Common.{◌≡◌, ℕ, ◌<◌, ◌≤◌, length}
+use Rattle.std.proofs.Common.{◌≡◌, ℕ, ◌<◌, length}
 use Rattle.map_search.specs.Table.{entry_at}
 use Rattle.map_search.specs.Index.{entry_for, quad_at}
 use Rattle.map_search.proofs.index.entries_of.Given as goal

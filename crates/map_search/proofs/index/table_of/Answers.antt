@@ -1,6 +1,6 @@
 use Rattle.rdf_terms.specs.Lists.{Permutes}
 use Rattle.rdf_terms.specs.declared.memory.NoMemory.{NoMemory}
-use Rattle.std.proofs.Common.{true, ◌≡◌, ℕ, ◌<◌, ◌≤◌, length, Result, Ok, Err, IfOk, arith}
+use Rattle.std.proofs.Common.{true, ◌≡◌, ℕ, ◌<◌, length, Result, Ok, Err, IfOk}
 use Rattle.map_search.specs.Table.{TableView}
 use Rattle.map_search.specs.Marks.{mark_at}
 use Rattle.map_search.specs.Index.{IsTableOf}

@@ -1,5 +1,4 @@
-use Rattle.std.proofs.Common.{◌≡◌, ℕ, ◌+◌, ◌*◌, ◌<◌, ◌≤◌, ◌^◌, ◌%◌, ◌/◌, ◌-◌, true, false, length, arith}
-use Rattle.map_search.specs.Marks.{mark_at, IsNextMark, NoMark, AreAbove}
+use Rattle.std.proofs.Common.{◌≡◌, ℕ, ◌+◌, ◌*◌, ◌<◌, ◌%◌, ◌/◌, arith}
 use Rattle.map_search.proofs.Marking.{even_end, no_next, next_left, next_right}
 use Rattle.map_search.proofs.marks.+next_at.Goals as goal
 use Rattle.map_search.proofs.marks.+next_at.Goals.{else-at-eq0-via-then-at-eq0+else-marks-at-2, else-at-eq0-via-else-at-eq0, else-at-eq0-2-via-then-at-eq0-2+else-at-end-2, else-at-eq0-2-via-else-at-eq0-2}

@@ -1,4 +1,4 @@
-use Rattle.std.proofs.Common.{◌≡◌, ℕ, ◌<◌, ◌≤◌, true, List, arith}
+use Rattle.std.proofs.Common.{arith}
 use Rattle.map_search.specs.declared.rows.Condition.TheVariants.{Subject}
 use Rattle.map_search.specs.declared.rows.End.TheVariants.{Fixed}
 use Rattle.map_search.proofs.Passing.{none_passed, least_on, stays_on}

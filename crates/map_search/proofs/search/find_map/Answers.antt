@@ -1,7 +1,7 @@
-use Rattle.std.proofs.Common.{◌≡◌, ℕ, List, suc, ◌+◌, ◌-◌, ◌*◌, ◌<◌, ◌≤◌, ◌∷◌, [], ◌++◌, length, reverse, refl, sym, ap, ◌∙◌, subst, arith, length-append}
+use Rattle.std.proofs.Common.{◌≡◌, ℕ, List, suc, ◌+◌, ◌-◌, ◌*◌, ◌<◌, ◌≤◌, ◌∷◌, [], length, reverse, refl, sym, ap, ◌∙◌, subst, arith, length-append}
 use Rattle.map_search.specs.Ends.{IsFound}
 use Rattle.map_search.proofs.Underway.{Underway}
-use Rattle.map_search.proofs.Steps.{State, total, at_start, past_none, more, go_deeper, pass, past_limit, found, go_back, nothing_left}
+use Rattle.map_search.proofs.Steps.{total, at_start, past_none, more, go_deeper, pass, past_limit, found, go_back, nothing_left}
 use Rattle.map_search.proofs.search.find_map.Goals as goal
 
 pub returns-then-limit-eq0 : goal.returns-then-limit-eq0
@@ -16,7 +16,7 @@ maps-init g c =
     let l : length c.new-images.result.items ≡ 0 = ap length c.new-images.ensures.items in
     record {
       limit = omega arith;
-      room = omega arith;
+      short = omega arith;
       underway = at_start (g.P.Problem.bound c.args.problem.now) (g.P.Problem.fits c.args.problem.now) c.places-places.result
           (g.P.Problem.sought c.args.problem.now) c.new-images.result.items c.new-images.ensures.items some;
     }
@@ -29,8 +29,10 @@ pub returns-in-None-pop : goal.returns-in-None-pop
 returns-in-None-pop g c =
     let n = rw c.as_slice.ensures.value at c.in-None.ensures.none in
     let e : c.maps.images.items ≡ [] = nil c.maps.images.items (sym (ap length c.as_slice.ensures.value) ∙ c.as_slice.ensures.len ∙ c.in-None-pop.ensures.cases.0) in
-    let u = subst (λ k. Underway (g.P.Problem.bound c.args.problem.now) (g.P.Problem.fits c.args.problem.now) k (g.P.Problem.sought c.args.problem.now) (reverse c.maps.images.items) c.maps.from c.maps.tried) c.places-places.ensures.places c.maps.invariant.underway in
-    nothing_left (g.P.Problem.bound c.args.problem.now) (g.P.Problem.fits c.args.problem.now) (g.P.Problem.places c.args.problem.now) (g.P.Problem.sought c.args.problem.now) c.maps.images.items c.maps.from c.maps.tried c.args.limit u e n c.maps.invariant.limit
+    let u = subst (λ k. Underway (g.P.Problem.bound c.args.problem.now) (g.P.Problem.fits c.args.problem.now) k (g.P.Problem.sought c.args.problem.now)
+    (reverse c.maps.images.items) c.maps.from c.maps.tried) c.places-places.ensures.places c.maps.invariant.underway in
+    nothing_left (g.P.Problem.bound c.args.problem.now) (g.P.Problem.fits c.args.problem.now) (g.P.Problem.places c.args.problem.now)
+    (g.P.Problem.sought c.args.problem.now) c.maps.images.items c.maps.from c.maps.tried c.args.limit u e n c.maps.invariant.limit
 
 pub maps-preserved-in-Some-pop : goal.maps-preserved-in-Some-pop
 maps-preserved-in-Some-pop g c =
@@ -39,7 +41,7 @@ maps-preserved-in-Some-pop g c =
     let l : length c.maps.images.items ≡ length c.pop.new.self.items + 1 = ap length items ∙ length-append c.pop.new.self.items (c.in-Some-pop.last ∷ []) in
     record {
       limit = c.maps.invariant.limit;
-      room = (let r = c.maps.invariant.room in omega arith);
+      short = (let r = c.maps.invariant.short in omega arith);
       underway = go_back (g.P.Problem.bound c.args.problem.now) (g.P.Problem.fits c.args.problem.now) c.places-places.result
           (g.P.Problem.sought c.args.problem.now) c.maps.images.items c.pop.new.self.items c.in-Some-pop.last c.maps.from c.maps.tried c.maps.invariant.underway items n;
     }
@@ -58,11 +60,16 @@ returns-then-is_sought g c =
     let n = rw c.as_slice.ensures.value at c.in-Some.ensures.some in
     let items = c.in_ok-push-in-Some.ensures.items in
     let l : length c.push.new.self.items ≡ length c.maps.images.items + 1 = ap length items ∙ length-append c.maps.images.items (c.in-Some.image ∷ []) in
-    let u = subst (λ k. Underway (g.P.Problem.bound c.args.problem.now) (g.P.Problem.fits c.args.problem.now) k (g.P.Problem.sought c.args.problem.now) (reverse c.maps.images.items) c.maps.from c.maps.tried) c.places-places.ensures.places c.maps.invariant.underway in
+    let u = subst (λ k. Underway (g.P.Problem.bound c.args.problem.now) (g.P.Problem.fits c.args.problem.now) k (g.P.Problem.sought c.args.problem.now)
+    (reverse c.maps.images.items) c.maps.from c.maps.tried) c.places-places.ensures.places c.maps.invariant.underway in
     let few : c.maps.tried < c.args.limit = (let a = c.maps.invariant.limit in let b = c.if-tried-limit.false in omega arith) in
-    let whole : suc (length c.maps.images.items) ≡ g.P.Problem.places c.args.problem.now = (let r = c.maps.invariant.room in let f = c.if-len-places.false in let p = c.places-places.ensures.places in omega arith) in
-    subst (IsFound (g.P.Problem.bound c.args.problem.now) (g.P.Problem.fits c.args.problem.now) (g.P.Problem.places c.args.problem.now) (g.P.Problem.sought c.args.problem.now) c.args.limit) (sym items)
-    (found (g.P.Problem.bound c.args.problem.now) (g.P.Problem.fits c.args.problem.now) (g.P.Problem.places c.args.problem.now) (g.P.Problem.sought c.args.problem.now) c.maps.images.items c.maps.from c.maps.tried u c.in-Some.image c.args.limit n few whole (sym (ap (g.P.Problem.sought c.args.problem.now) (c.as_slice-else-len-places.ensures.value ∙ items)) ∙ sym c.in_ok-is_sought-in-Some.ensures ∙ c.if-is_sought.true))
+    let whole : suc (length c.maps.images.items) ≡ g.P.Problem.places c.args.problem.now =
+    (let r = c.maps.invariant.short in let f = c.if-len-places.false in let p = c.places-places.ensures.places in omega arith) in
+    subst (IsFound (g.P.Problem.bound c.args.problem.now) (g.P.Problem.fits c.args.problem.now) (g.P.Problem.places c.args.problem.now) (g.P.Problem.sought c.args.problem.now) c.args.limit)
+    (sym items)
+    (found (g.P.Problem.bound c.args.problem.now) (g.P.Problem.fits c.args.problem.now) (g.P.Problem.places c.args.problem.now)
+    (g.P.Problem.sought c.args.problem.now) c.maps.images.items c.maps.from c.maps.tried u c.in-Some.image c.args.limit n few whole
+    (sym (ap (g.P.Problem.sought c.args.problem.now) (c.as_slice-else-len-places.ensures.value ∙ items)) ∙ sym c.in_ok-is_sought-in-Some.ensures ∙ c.if-is_sought.true))
 
 -- one map more is tried, and the images are at most one more
 falls : (total tried before after : ℕ) → tried < total → after ≤ before + 1 → 2 * (total - (tried + 1)) + after < 2 * (total - tried) + before
@@ -85,7 +92,7 @@ maps-preserved-then-len-places g c =
     let t = c.if-len-places.true in
     record {
       limit = omega arith;
-      room = omega arith;
+      short = omega arith;
       underway = subst
           (λ w. Underway (g.P.Problem.bound c.args.problem.now) (g.P.Problem.fits c.args.problem.now) c.places-places.result (g.P.Problem.sought c.args.problem.now) (reverse w) 0 (c.maps.tried + 1))
           (sym items)
@@ -111,10 +118,10 @@ maps-preserved g c =
     let same : c.drop_last.new.images.items ≡ c.maps.images.items = c.drop_last.ensures c.maps.images.items c.in-Some.image items in
     let k : length c.drop_last.new.images.items ≡ length c.maps.images.items = ap length same in
     let f = c.if-len-places.false in
-    let r = c.maps.invariant.room in
+    let r = c.maps.invariant.short in
     record {
       limit = omega arith;
-      room = omega arith;
+      short = omega arith;
       underway = subst
           (λ w. Underway (g.P.Problem.bound c.args.problem.now) (g.P.Problem.fits c.args.problem.now) c.places-places.result (g.P.Problem.sought c.args.problem.now) (reverse w) (c.in-Some.image + 1)
           (c.maps.tried + 1)) (sym same)

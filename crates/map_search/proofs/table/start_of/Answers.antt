@@ -1,5 +1,4 @@
-use Rattle.std.proofs.Common.{◌≡◌, ℕ, ◌+◌, ◌-◌, ◌/◌, ◌<◌, ◌≤◌, true, false, length, sym, ◌∙◌, arith}
-use Rattle.map_search.specs.Table.{entry_at, is_before}
+use Rattle.std.proofs.Common.{◌+◌, ◌-◌, ◌/◌, sym, ◌∙◌, arith}
 use Rattle.map_search.proofs.Ordering.{more_before, more_behind}
 use Rattle.map_search.proofs.table.start_of.Goals as goal
 

@@ -1,4 +1,4 @@
-use Rattle.std.proofs.Common.{◌-◌, ◌≡◌, ℕ, ◌+◌, ◌*◌, ◌<◌, ◌≤◌, ◌^◌, length}
+use Rattle.std.proofs.Common.{◌-◌, ◌≡◌, ◌<◌, ◌^◌}
 use Rattle.map_search.proofs.marks.Marks.new.Given as goal
 
 abbrev pub invariant-loop-width : goal.invariant-loop-width

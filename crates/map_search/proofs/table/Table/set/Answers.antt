@@ -1,4 +1,4 @@
-use Rattle.std.proofs.Common.{◌≡◌, ℕ, ◌<◌, ◌≤◌, List, length, sym, ap, ◌∙◌, subst, arith}
+use Rattle.std.proofs.Common.{◌≡◌, ◌<◌, List, length, sym, ap, ◌∙◌, subst, arith}
 use Rattle.rdf_terms.specs.Lists.{In}
 use Rattle.map_search.specs.Marks.{mark_at}
 use Rattle.map_search.specs.declared.table.Entry.{Entry}
@@ -11,7 +11,7 @@ set-requires c =
     let s = subst (λ xs. IsStart xs c.args.entry c.start_of-place.result) c.as_slice.ensures.value c.start_of-place.ensures in
     let p = start_is c.self.inside.entries.items c.self.invariant.in_order c.args.entry c.start_of-place.result s
     (subst (λ (v : TableView). In c.args.entry v.entries) (sym c.self.view_is) c.requires) in
-    let r = c.self.invariant.room in
+    let r = c.self.invariant.enough in
     let q = p.0 in
     omega arith
 
