@@ -1,24 +1,19 @@
 -- The conditions of the triples that are left at each node are the rows of a search.
-use Rattle.std.proofs.Common.{◌≡◌, ℕ, zero, suc, ◌+◌, ◌<◌, ◌≤◌, ◌⊎◌, ◌==◌, ◌&&◌, Bool, true, false, if◌then◌else◌, List, [], ◌∷◌, ◌++◌, length, map, get_or, Option, Some, None, refl, sym, ap, ◌∙◌, subst, inl, inr, arith, true≢false, eq-eqb}
+use Rattle.std.proofs.Common.{◌≡◌, ℕ, zero, suc, ◌+◌, ◌<◌, ◌⊎◌, ◌==◌, Bool, true, false, List, [], ◌∷◌, ◌++◌, length, map, get_or, Option, Some, None, refl, sym, ap, ◌∙◌, subst, inl, inr, arith, true≢false, eq-eqb}
 use Rattle.std.specs.Prelude.{nat_lt}
 use Rattle.std.specs.List.{filter}
-use Rattle.std.proofs.lemmas.Bool.{eqb-true, ltb-true, lt-ltb}
+use Rattle.std.proofs.lemmas.Bool.{cases_Bool, cases_order, eqb-true, ltb-true, lt-ltb, ne_eqb}
 use Rattle.std.proofs.lemmas.List.{length-map, get_or-map, map-append}
-use Rattle.rdf_terms.specs.Lists.{In, AreDistinct}
-use Rattle.rdf_terms.specs.Document.{Document, statement, statements, term_at}
-use Rattle.rdf_terms.specs.declared.term.Term.{Term}
+use Rattle.rdf_terms.proofs.Common.{In, Document, statement, statements, term_at, In-map, from_In-map, In-get_or, place_within, decide_in}
 use Rattle.rdf_terms.specs.declared.term.Term.TheVariants.{Blank}
 use Rattle.rdf_terms.specs.declared.term.Quad.{Quad}
-use Rattle.rdf_terms.proofs.Membership.{In-map, from_In-map}
-use Rattle.rdf_terms.proofs.MadeLists.{In-get_or, place_within}
 use Rattle.dataset_index.specs.Mentions.{places_of}
-use Rattle.graph_model.proofs.Closed.{decide_in}
 use Rattle.graph_model.proofs.Maps.{by_subject, by_object}
 use Rattle.map_search.specs.Index.{quad_at, meets_in}
 use Rattle.map_search.specs.Laws.{IsSearch}
 use Rattle.map_search.specs.Marks.{mark_at}
 use Rattle.map_search.specs.Numbers.{AreNumbers}
-use Rattle.map_search.specs.Pattern.{IsAsked, IsAskedOf, IsAskedWhole, IsWhole, IsOtherEnd, AreRows, EachIsAsked, TouchesOneOf, row_at}
+use Rattle.map_search.specs.Pattern.{IsAsked, IsAskedOf, IsAskedWhole, IsWhole, IsOtherEnd, EachIsAsked, TouchesOneOf, row_at}
 use Rattle.map_search.specs.declared.rows.End.{End}
 use Rattle.map_search.specs.declared.rows.End.TheVariants.{Fixed, Place}
 use Rattle.map_search.specs.declared.rows.Condition.{Condition}
@@ -29,29 +24,8 @@ use Rattle.lean_search.specs.Image.{IsOneGraph, quads_left}
 use Rattle.lean_search.specs.Places.{ArePlaces}
 use Rattle.lean_search.specs.declared.places.TheConstants.{NONE}
 use Rattle.rdf_terms.specs.declared.limits.TheConstants.{MOST_NUMBERS}
+use Rattle.lean_search.proofs.Shrinking.{In-kept-quads}
 use Rattle.lean_search.proofs.AtNodes.{IsLeftAt, place_left, left_place, mentioned_end, In-quad_at}
-
--- ---- tests
-
-decide : (x y : ℕ) → ((x == y) ≡ true) ⊎ ((x == y) ≡ false)
-decide x y = by (x == y)
-  where
-    by : (b : Bool) → (b ≡ true) ⊎ (b ≡ false)
-    by true = inl refl
-    by false = inr refl
-
-decide_below : (x y : ℕ) → (nat_lt x y ≡ true) ⊎ (nat_lt x y ≡ false)
-decide_below x y = by (nat_lt x y)
-  where
-    by : (b : Bool) → (b ≡ true) ⊎ (b ≡ false)
-    by true = inl refl
-    by false = inr refl
-
-differ : (x y : ℕ) → (¬ (x ≡ y)) → (x == y) ≡ false
-differ x y n = elim (decide x y) [ inl e ↦ absurd (n (eqb-true x y e)) | inr f ↦ f ]
-
-three : (x y : ℕ) → (x < y) ⊎ ((x ≡ y) ⊎ (y < x))
-three x y = grind arith
 
 -- ---- one condition
 
@@ -73,7 +47,7 @@ module _ (terms : ℕ) (place_of own : List ℕ) (are : ArePlaces terms place_of
       by (inr o) = absurd (true≢false (sym (eq-eqb (get_or place_of x 0) NONE (are.elsewhere x l o)) ∙ n))
 
   other_end : (k x : ℕ) (e : End) → x < terms → end_for place_of k x ≡ Some e → IsOtherEnd own k e x
-  other_end k x e l f = by (decide (get_or place_of x 0) NONE) (decide_below (get_or place_of x 0) k)
+  other_end k x e l f = by (cases_Bool (get_or place_of x 0 == NONE)) (cases_Bool (nat_lt (get_or place_of x 0) k))
     where
       by : ((get_or place_of x 0 == NONE) ≡ true) ⊎ ((get_or place_of x 0 == NONE) ≡ false) → (nat_lt (get_or place_of x 0) k ≡ true) ⊎ (nat_lt (get_or place_of x 0) k ≡ false) → IsOtherEnd own k e x
       by (inl n) b =
@@ -97,7 +71,7 @@ module _ (terms : ℕ) (place_of own : List ℕ) (are : ArePlaces terms place_of
   asked_object k q l o (Some e) f = (o, refl, other_end k q.s e l f)
 
   pub asked_of : (k : ℕ) (q : Quad) → q.s < terms → q.o < terms → (q.s ≡ get_or own k 0) ⊎ (q.o ≡ get_or own k 0) → IsAsked own k q (condition_for place_of k (get_or own k 0) q)
-  asked_of k q ls lo touches = by (decide q.s (get_or own k 0)) (decide q.o (get_or own k 0))
+  asked_of k q ls lo touches = by (cases_Bool (q.s == get_or own k 0)) (cases_Bool (q.o == get_or own k 0))
     where
       by : ((q.s == get_or own k 0) ≡ true) ⊎ ((q.s == get_or own k 0) ≡ false) → ((q.o == get_or own k 0) ≡ true) ⊎ ((q.o == get_or own k 0) ≡ false)
           → IsAsked own k q (condition_for place_of k (get_or own k 0) q)
@@ -110,7 +84,7 @@ module _ (terms : ℕ) (place_of own : List ℕ) (are : ArePlaces terms place_of
 
   settled_end : (k x : ℕ) → (get_or place_of x 0 ≡ NONE) ⊎ (get_or place_of x 0 < k) → (e : End) × (end_for place_of k x ≡ Some e)
   settled_end k x (inl e) = (Fixed x, (let n : (get_or place_of x 0 == NONE) ≡ true = eq-eqb (get_or place_of x 0) NONE e in rw n refl))
-  settled_end k x (inr l) = by (decide (get_or place_of x 0) NONE)
+  settled_end k x (inr l) = by (cases_Bool (get_or place_of x 0 == NONE))
     where
       by : ((get_or place_of x 0 == NONE) ≡ true) ⊎ ((get_or place_of x 0 == NONE) ≡ false) → (e : End) × (end_for place_of k x ≡ Some e)
       by (inl n) = (Fixed x, rw n refl)
@@ -121,23 +95,24 @@ module _ (terms : ℕ) (place_of own : List ℕ) (are : ArePlaces terms place_of
 
   whole_subject : (k : ℕ) (q : Quad) (t : ℕ) → q.s ≡ t → (¬ (q.o ≡ t)) → (get_or place_of q.o 0 ≡ NONE) ⊎ (get_or place_of q.o 0 < k) → IsWhole (condition_for place_of k t q)
   whole_subject k q t s o e =
-      (let a : (q.s == t) ≡ true = eq-eqb q.s t s in let b : (q.o == t) ≡ false = differ q.o t o in let r = settled_end k q.o e in rw (a, b) (subst (λ w. IsWhole (subject_for q.p w)) (sym r.1) tt))
+      (let a : (q.s == t) ≡ true = eq-eqb q.s t s in let b : (q.o == t) ≡ false = ne_eqb q.o t o in let r = settled_end k q.o e in rw (a, b) (subst (λ w. IsWhole (subject_for q.p w)) (sym r.1) tt))
 
   whole_object : (k : ℕ) (q : Quad) (t : ℕ) → (¬ (q.s ≡ t)) → (get_or place_of q.s 0 ≡ NONE) ⊎ (get_or place_of q.s 0 < k) → IsWhole (condition_for place_of k t q)
-  whole_object k q t s e = (let a : (q.s == t) ≡ false = differ q.s t s in let r = settled_end k q.s e in rw a (subst (λ w. IsWhole (object_for q.p w)) (sym r.1) tt))
+  whole_object k q t s e = (let a : (q.s == t) ≡ false = ne_eqb q.s t s in let r = settled_end k q.s e in rw a (subst (λ w. IsWhole (object_for q.p w)) (sym r.1) tt))
 
 -- ---- the rows
 
-pub push_row : (old : List (List Condition)) (row : List Condition) (n : ℕ) (f : ℕ → List Condition) → length old ≡ n → ((k : ℕ) → k < n → row_at old k ≡ f k) → row ≡ f n → (k : ℕ) → k < n + 1
-    → row_at (old ++ row ∷ []) k ≡ f k
-push_row [] row n f e h r zero l = r ∙ ap f (sym e)
-push_row [] row n f e h r (suc k) l = absurd (omega arith)
-push_row (x ∷ xs) row n f e h r zero l = h 0 (omega arith)
-push_row (x ∷ xs) row n f e h r (suc k) l = push_row xs row (length xs) (λ j. f (suc j)) refl (λ j m. h (suc j) (omega arith)) (r ∙ ap f (sym e)) k (omega arith)
+-- what holds at each place of a list, and of what is pushed, holds at each place behind
+pub push_each : {A : Type 0} (P : ℕ → A → Type 0) (d : A) (xs : List A) (n : ℕ) (x : A) → length xs ≡ n → ((k : ℕ) → k < n → P k (get_or xs k d)) → P n x → (k : ℕ) → k < n + 1
+    → P k (get_or (xs ++ x ∷ []) k d)
+push_each P d [] n x e h p zero l = subst (λ m. P m x) (sym e) p
+push_each P d [] n x e h p (suc k) l = absurd (omega arith)
+push_each P d (y ∷ ys) n x e h p zero l = h 0 (omega arith)
+push_each P d (y ∷ ys) n x e h p (suc k) l = push_each (λ m. P (suc m)) d ys (length ys) x refl (λ j m. h (suc j) (omega arith)) (subst (λ m. P m x) (sym e) p) k (omega arith)
 
 pub push_rows : {A : Type 0} (f : A → List Condition) (old : List A) (x : A) (n : ℕ) (g : ℕ → List Condition) → length old ≡ n → ((k : ℕ) → k < n → row_at (map f old) k ≡ g k) → f x ≡ g n → (k : ℕ)
     → k < n + 1 → row_at (map f (old ++ x ∷ [])) k ≡ g k
-push_rows f old x n g e h r k l = ap (λ rows. row_at rows k) (map-append f old (x ∷ [])) ∙ push_row (map f old) (f x) n g (length-map old f ∙ e) h r k l
+push_rows f old x n g e h r k l = ap (λ rows. row_at rows k) (map-append f old (x ∷ [])) ∙ push_each (λ j row. row ≡ g j) [] (map f old) n (f x) (length-map old f ∙ e) h r k l
 
 pub ends_within : (d : Document) (live : List Bool) (node : ℕ) → IsOneGraph d → (k : ℕ) → In k (filter (mark_at live) (places_of (statements d) node))
     → ((quad_at d.quads k).s < length d.terms) × ((quad_at d.quads k).o < length d.terms)
@@ -240,12 +215,12 @@ module _ (d : Document) (live : List Bool) (one : IsOneGraph d) (place_of walk o
       at x h = (let p = place_within own x 0 h in (p.0, p.1, p.2, subst (λ y. get_or place_of y 0 ≡ p.0) p.2 (are.at_place p.0 p.1)))
 
       both : (a : (k : ℕ) × (k < length own) × (get_or own k 0 ≡ q.s) × (get_or place_of q.s 0 ≡ k)) (b : (k : ℕ) × (k < length own) × (get_or own k 0 ≡ q.o) × (get_or place_of q.o 0 ≡ k))
-          → (a.0 < b.0) ⊎ ((a.0 ≡ b.0) ⊎ (b.0 < a.0)) → IsAskedWhole own rows q
-      both a b (inl l) =
+          → (a.0 ≡ b.0) ⊎ ((a.0 < b.0) ⊎ (b.0 < a.0)) → IsAskedWhole own rows q
+      both a b (inr (inl l)) =
           whole_at q b.0 j.0 b.1 j.1 j.3 j.2 (inr (sym b.2))
           (whole_object (length d.terms) place_of own are few b.0 q (get_or own b.0 0) (λ e. (let f : a.0 ≡ b.0 = sym a.3 ∙ (ap (λ x. get_or place_of x 0) (e ∙ b.2) ∙ b.3) in omega arith))
           (inr (let e = a.3 in omega arith)))
-      both a b (inr (inl e)) =
+      both a b (inl e) =
           whole_at q a.0 j.0 a.1 j.1 j.3 j.2 (inl (sym a.2)) (whole_both (length d.terms) place_of own are few a.0 q (get_or own a.0 0) (sym a.2) (sym b.2 ∙ ap (λ k. get_or own k 0) (sym e)))
       both a b (inr (inr l)) =
           whole_at q a.0 j.0 a.1 j.1 j.3 j.2 (inl (sym a.2))
@@ -256,7 +231,7 @@ module _ (d : Document) (live : List Bool) (one : IsOneGraph d) (place_of walk o
       range = (let r = numbers.in_range q i in (r.s, r.o))
 
       by : In q.s own ⊎ (¬ (In q.s own)) → In q.o own ⊎ (¬ (In q.o own)) → IsAskedWhole own rows q
-      by (inl s) (inl o) = both (at q.s s) (at q.o o) (three (at q.s s).0 (at q.o o).0)
+      by (inl s) (inl o) = both (at q.s s) (at q.o o) (cases_order (at q.s s).0 (at q.o o).0)
       by (inl s) (inr o) =
           let a = at q.s s in
           whole_at q a.0 j.0 a.1 j.1 j.3 j.2 (inl (sym a.2))
@@ -275,18 +250,15 @@ module _ (d : Document) (live : List Bool) (one : IsOneGraph d) (place_of walk o
       let at : IsLeftAt d live (get_or walk k 0) j.0 = end_left k j.0 m j.1 j.3 (elim t.end [ inl e ↦ inl (ap (λ (q : Quad). q.s) j.2 ∙ sym e) | inr e ↦ inr (ap (λ (q : Quad). q.o) j.2 ∙ sym e) ]) in
       (asks k j.0, in_row k j.0 m at)
 
-  left_there : (q : Quad) → In q H → In q d.quads
-  left_there q i = (let j = In-kept q d.quads live i in subst (λ x. In x d.quads) j.2 (In-quad_at d.quads j.0 j.1))
-
   pub is_search : IsSearch H H own rows (length d.terms) (meets_in H)
   is_search = record {
     rows_are = record {
-      unnamed = λ q i. one.unnamed q (left_there q i);
+      unnamed = λ q i. one.unnamed q (In-kept-quads q d.quads live i);
       distinct = numbers.once;
       count = count ∙ sym same_length;
       only = only;
       all = all;
     };
     asked = each_asked;
-    tells = index_tells H (length d.terms) (λ q i. (let r = numbers.in_range q i in (r.s, r.o))) (λ q i. one.unnamed q (left_there q i));
+    tells = index_tells H (length d.terms) (λ q i. (let r = numbers.in_range q i in (r.s, r.o))) (λ q i. one.unnamed q (In-kept-quads q d.quads live i));
   }

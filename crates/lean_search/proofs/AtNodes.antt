@@ -1,30 +1,24 @@
 -- The triples that are left at a node, by their places.
-use Rattle.std.proofs.Common.{◌≡◌, ℕ, zero, suc, ◌<◌, ◌⊎◌, ◌↔◌, Bool, true, false, ◌||◌, cond, List, [], ◌∷◌, length, map, Option, Some, None, slice_get, refl, sym, ap, ◌∙◌, subst, inl, inr, arith, true≢false}
+use Rattle.std.proofs.Common.{◌≡◌, ℕ, suc, ◌<◌, ◌⊎◌, ◌↔◌, Bool, true, List, [], ◌∷◌, length, Option, Some, None, slice_get, sym, ap, ◌∙◌, inl, inr, arith, true≢false}
 use Rattle.std.specs.List.{filter, list_any}
 use Rattle.std.specs.Option.{option_map, IfSome}
 use Rattle.std.proofs.lemmas.List.{length-map}
 use Rattle.std.proofs.lemmas.Option.{slice_get-get_or, slice_get-map}
-use Rattle.rdf_terms.specs.Lists.{In, numbers_below}
-use Rattle.rdf_terms.specs.Terms.{Statement}
-use Rattle.rdf_terms.specs.Dataset.{mentions, is_node, is_named_by, IsUsed}
-use Rattle.rdf_terms.specs.Document.{Document, statement, statements, term_at, graph_name_at}
+use Rattle.rdf_terms.proofs.Common.{In, numbers_below, Statement, mentions, is_node, is_named_by, IsUsed, Document, statement, statements, term_at, graph_name_at, In-map, from_In-map, In-at, In-numbers_below, from_In-numbers_below, In-filter, from_In-filter}
 use Rattle.rdf_terms.specs.declared.term.Term.{Term}
 use Rattle.rdf_terms.specs.declared.term.Term.TheVariants.{Iri, Blank, Literal}
 use Rattle.rdf_terms.specs.declared.term.Quad.{Quad}
-use Rattle.rdf_terms.proofs.Membership.{In-map, from_In-map, In-at, In-append_left, In-append_right}
-use Rattle.rdf_terms.proofs.Ranks.{In-numbers_below, from_In-numbers_below}
 use Rattle.dataset_index.specs.Mentions.{mentioned_by, node_in, places_of}
 use Rattle.dataset_index.proofs.Building.{node_below}
 use Rattle.graph_model.specs.Components.{ShareTriple}
 use Rattle.graph_model.proofs.Maps.{by_subject, by_object}
-use Rattle.std.proofs.lemmas.Bool.{or_cases, or_right}
-use Rattle.map_search.specs.Index.{kept, quad_at, no_quad}
+use Rattle.std.proofs.lemmas.Bool.{or_cases}
+use Rattle.map_search.specs.Index.{quad_at, no_quad}
 use Rattle.map_search.specs.Marks.{mark_at}
 use Rattle.map_search.proofs.Bridging.{is_node-blank, blank-is_node}
-use Rattle.map_search.proofs.Indexing.{In-kept, kept-In}
+use Rattle.map_search.proofs.Indexing.{In-kept, kept-In, passes_some, some_passes}
 use Rattle.lean_search.specs.Image.{IsOneGraph, left, quads_left}
 use Rattle.lean_search.specs.Walk.{IsNear}
-use Rattle.rdf_terms.proofs.MadeLists.{In-filter, from_In-filter}
 
 -- ---- the places of a node
 
@@ -170,25 +164,12 @@ shares_near d live one node n share =
 
 -- ---- whether a triple of a node is left
 
-any_In : (p : ℕ → Bool) (xs : List ℕ) → list_any p xs ≡ true → (x : ℕ) × In x xs × (p x ≡ true)
-any_In p [] e = absurd (true≢false (sym e))
-any_In p (x ∷ xs) e = by (p x) refl e (any_In p xs)
-  where
-    by : (b : Bool) → p x ≡ b → (b || list_any p xs) ≡ true → (list_any p xs ≡ true → (y : ℕ) × In y xs × (p y ≡ true)) → (y : ℕ) × In y (x ∷ xs) × (p y ≡ true)
-    by true f e ih = (x, inl refl, f)
-    by false f e ih = (let r = ih e in (r.0, inr r.1, r.2))
-
-In-any : (p : ℕ → Bool) (xs : List ℕ) (x : ℕ) → In x xs → p x ≡ true → list_any p xs ≡ true
-In-any p [] x i e = absurd i
-In-any p (y ∷ ys) x (inl f) e = (let g : p y ≡ true = ap p (sym f) ∙ e in rw g refl)
-In-any p (y ∷ ys) x (inr i) e = or_right (p y) (list_any p ys) (In-any p ys x i e)
-
 pub any_left : (d : Document) (live : List Bool) (n : ℕ) → (list_any (mark_at live) (places_of (statements d) n) ≡ true) ↔ IsUsed (left d live) n
 any_left d live n = (to, from)
   where
     to : list_any (mark_at live) (places_of (statements d) n) ≡ true → IsUsed (left d live) n
     to e =
-        let p = any_In (mark_at live) (places_of (statements d) n) e in
+        let p = some_passes (mark_at live) (places_of (statements d) n) e in
         let m = place_of_node d n p.0 p.1 in
         used_left d live n p.0 (record { within = m.0; is_left = p.2; mentioned = m.1 })
 
@@ -196,7 +177,7 @@ any_left d live n = (to, from)
     from u =
         let p = left_used d live n u in
         let i = from_In-filter (mark_at live) p.0 (places_of (statements d) n) (left_place d live n p.0 p.1) in
-        In-any (mark_at live) (places_of (statements d) n) p.0 i.0 i.1
+        passes_some (mark_at live) (places_of (statements d) n) p.0 i.0 i.1
 
 -- a node of a term is one of the document
 pub node_in_within : (d : Document) → IsOneGraph d → (k : ℕ) → k < length d.terms → (r : Option ℕ) → r ≡ node_in (term_at d.terms k) → IfSome r (λ n. n < length d.labels)

@@ -3,8 +3,7 @@ use Rattle.std.proofs.Common.{◌≡◌, ℕ, zero, suc, ◌-◌, ◌<◌, ◌�
 use Rattle.std.specs.List.{All}
 use Rattle.std.proofs.lemmas.Bool.{eqb-true}
 use Rattle.std.proofs.lemmas.List.{length-set, get_or-set_same, get_or-set_other}
-use Rattle.rdf_terms.specs.Lists.{In, AreDistinct}
-use Rattle.rdf_terms.specs.Document.{term_at}
+use Rattle.rdf_terms.proofs.Common.{In, AreDistinct, term_at}
 use Rattle.rdf_terms.specs.declared.term.Term.{Term}
 use Rattle.rdf_terms.specs.declared.term.Term.TheVariants.{Iri, Blank, Literal}
 use Rattle.graph_model.specs.Graphs.{mapped, composed}

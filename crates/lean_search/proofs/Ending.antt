@@ -1,73 +1,49 @@
 -- What the search of a graph answers.
-use Rattle.std.proofs.Common.{◌≡◌, ℕ, zero, suc, ◌+◌, ◌<◌, ◌≤◌, ◌⊎◌, Bool, true, false, if◌then◌else◌, List, [], ◌∷◌, ◌++◌, length, take, map, get_or, set, Option, Some, None, slice_get, refl, sym, ap, ◌∙◌, subst, inl, inr, arith, add-one}
+use Rattle.std.proofs.Common.{◌≡◌, ℕ, zero, suc, ◌+◌, ◌<◌, Bool, true, false, if◌then◌else◌, List, [], ◌∷◌, ◌++◌, length, take, map, get_or, Option, Some, None, refl, sym, ap, ◌∙◌, subst, inl, inr, arith, add-one}
 use Rattle.std.specs.List.{All}
 use Rattle.std.specs.Option.{IfNone}
 use Rattle.std.specs.Ordering.{is_lt, is_gt, ordering_reverse}
-use Rattle.std.specs.Cmp.{IsTotalOrder}
 use Rattle.std.specs.declared.cmp.Ordering.{Ordering}
 use Rattle.std.specs.declared.cmp.Ordering.TheVariants.{Less, Equal, Greater}
-use Rattle.std.specs.Cmp.Lexicographic.{options_total}
-use Rattle.std.proofs.lemmas.Cmp.{nat_cmp_total, on_total, then_total, upto}
-use Rattle.std.proofs.lemmas.List.{get_or-set_same, get_or-set_other}
+use Rattle.std.proofs.lemmas.Cmp.{upto}
 use Rattle.std.proofs.lemmas.List.Elements.{All-from_get_or}
 use Rattle.std.proofs.lemmas.Option.{get_or_from_slice_get, slice_get_within}
-use Rattle.rdf_terms.specs.Lists.{In, AreDistinct}
-use Rattle.rdf_terms.specs.Terms.{Statement}
-use Rattle.rdf_terms.specs.Dataset.{IsUsed}
-use Rattle.rdf_terms.specs.Document.{Document, IsDocument, IsInRange, statement, statements, term_at, graph_name_at}
-use Rattle.rdf_terms.specs.declared.term.Term.{Term}
-use Rattle.rdf_terms.specs.declared.term.Term.TheVariants.{Iri, Blank, Literal}
+use Rattle.rdf_terms.proofs.Common.{In, AreDistinct, Statement, IsUsed, Document, IsDocument, IsInRange, statement, statements, term_at, graph_name_at, decide_in, from_In-map, All-from_each, In-get_or, each-from_All, map-agree}
+use Rattle.rdf_terms.specs.declared.term.Term.TheVariants.{Blank}
 use Rattle.rdf_terms.specs.declared.term.Quad.{Quad}
-use Rattle.rdf_terms.proofs.Membership.{In-map, from_In-map}
 use Rattle.dataset_index.specs.QuadOrder.{quad_cmp, Ascend}
-use Rattle.graph_model.specs.Graphs.{mapped, mapped_triple, IsGraph, IsImage, IsLean, IsReached}
+use Rattle.dataset_index.proofs.Searching.{total}
+use Rattle.graph_model.specs.Graphs.{mapped, mapped_triple, IsGraph, IsLean, IsReached}
 use Rattle.graph_model.specs.Counts.{IsPastSearch, IsWithinSearch}
 use Rattle.graph_model.specs.Laws.{IsShrunk}
 use Rattle.graph_model.proofs.Maps.{mapped_triple-same}
-use Rattle.map_search.specs.Index.{kept, quad_at}
+use Rattle.map_search.specs.Index.{kept}
 use Rattle.map_search.specs.Marks.{mark_at}
-use Rattle.map_search.specs.Numbers.{Agrees}
 use Rattle.lean_search.specs.Image.{IsOneGraph, left}
-use Rattle.lean_search.specs.Lean.{map_by, IsLeanForm, IsPastLimit, triples_of}
+use Rattle.lean_search.specs.Lean.{map_by, IsLeanForm, IsPastLimit}
 use Rattle.lean_search.specs.Outer.{Marks}
 use Rattle.lean_search.specs.Searched.{IsLeanState, IsSearchedTo, State}
 use Rattle.lean_search.specs.Steps.{IsMapBy, IsNodeMapped, map_by_steps}
 use Rattle.lean_search.specs.declared.steps.Step.{Step}
 use Rattle.lean_search.specs.declared.form.LeanForm.{LeanForm}
 use Rattle.lean_search.proofs.AtNodes.{statement_within}
-use Rattle.lean_search.proofs.Walking.{In-take-split}
-use Rattle.lean_search.proofs.Placing.{In-take-less, In-take-last}
-use Rattle.rdf_terms.proofs.MadeLists.{All-from_each, each-from_All, map-agree}
+use Rattle.lean_search.proofs.Shrinking.{In-kept-quads}
+use Rattle.lean_search.proofs.Walking.{mark_within}
 
 -- ---- nodes that are marked
 
-same_or_other : (x y : ℕ) → (x ≡ y) ⊎ (¬ (x ≡ y))
-same_or_other x y = grind arith
-
-pub marks_none : (first : List Bool) (nodes : List ℕ) → Marks (take 0 nodes) (mark_at first) (mark_at first)
-marks_none first nodes = record { stays = λ n e. e; marks = λ n i. absurd i; only = λ n e. inl e }
-
-pub marks_next : (first now : List Bool) (nodes : List ℕ) (k : ℕ) → k < length nodes → get_or nodes k 0 < length now → Marks (take k nodes) (mark_at first) (mark_at now) → Marks (take (k + 1) nodes) (mark_at first) (mark_at (set now (get_or nodes k 0) true))
-marks_next first now nodes k l w m = record {
-  stays = λ n e. kept n (m.stays n e) (same_or_other n (get_or nodes k 0));
-  marks = λ n i. elim (In-take-split nodes k n i) [ inl j ↦ kept n (m.marks n j) (same_or_other n (get_or nodes k 0)) | inr e ↦ here n e ];
-  only = λ n e. only n e (same_or_other n (get_or nodes k 0));
+pub marked_as : (walk : List ℕ) (first now : List Bool) → All (λ n. n < length first) walk → ((k : ℕ) → In k walk → k < length first → mark_at now k ≡ true)
+    → ((k : ℕ) → (¬ (In k walk)) → mark_at now k ≡ mark_at first k) → Marks walk (mark_at first) (mark_at now)
+marked_as walk first now within here others = record {
+  stays = λ n e. elim (decide_in n walk) [ inl i ↦ here n i (mark_within first n e) | inr o ↦ others n o ∙ e ];
+  marks = λ n i. here n i (each-from_All (λ k. k < length first) walk n within i);
+  only = λ n e. elim (decide_in n walk) [ inl i ↦ inr i | inr o ↦ inl (sym (others n o) ∙ e) ];
 }
-  where
-    here : (n : ℕ) → n ≡ get_or nodes k 0 → mark_at (set now (get_or nodes k 0) true) n ≡ true
-    here n e = ap (mark_at (set now (get_or nodes k 0) true)) e ∙ get_or-set_same now (get_or nodes k 0) true false w
-
-    kept : (n : ℕ) → mark_at now n ≡ true → (n ≡ get_or nodes k 0) ⊎ (¬ (n ≡ get_or nodes k 0)) → mark_at (set now (get_or nodes k 0) true) n ≡ true
-    kept n e (inl f) = here n f
-    kept n e (inr o) = get_or-set_other now (get_or nodes k 0) n true false o ∙ e
-
-    only : (n : ℕ) → mark_at (set now (get_or nodes k 0) true) n ≡ true → (n ≡ get_or nodes k 0) ⊎ (¬ (n ≡ get_or nodes k 0)) → (mark_at first n ≡ true) ⊎ In n (take (k + 1) nodes)
-    only n e (inl f) = inr (subst (λ x. In x (take (k + 1) nodes)) (sym f) (In-take-last nodes k l))
-    only n e (inr o) = elim (m.only n (sym (get_or-set_other now (get_or nodes k 0) n true false o) ∙ e)) [ inl a ↦ inl a | inr i ↦ inr (In-take-less nodes k n i) ]
 
 -- ---- the triples that are left
 
-pub kept-more : (quads : List Quad) (live : List Bool) (k : ℕ) (d : Quad) → k < length quads → kept (take (suc k) quads) live ≡ kept (take k quads) live ++ (if mark_at live k then get_or quads k d ∷ [] else [])
+pub kept-more : (quads : List Quad) (live : List Bool) (k : ℕ) (d : Quad) → k < length quads
+    → kept (take (suc k) quads) live ≡ kept (take k quads) live ++ (if mark_at live k then get_or quads k d ∷ [] else [])
 kept-more [] live k d l = absurd (omega arith)
 kept-more (q ∷ qs) [] zero d l = refl
 kept-more (q ∷ qs) [] (suc k) d l = refl
@@ -80,10 +56,6 @@ kept-more (q ∷ qs) (false ∷ bs) (suc k) d l = kept-more qs bs k d (omega ari
 abbrev Up : List Quad → Type 0
 Up [] = Unit {0}
 Up (q ∷ qs) = ((x : Quad) → In x qs → is_gt (quad_cmp q x) ≡ false) × Up qs
-
-total : IsTotalOrder quad_cmp
-total =
-    then_total (on_total (λ (q : Quad). q.s) nat_cmp_total) (then_total (on_total (λ (q : Quad). q.p) nat_cmp_total) (then_total (on_total (λ (q : Quad). q.o) nat_cmp_total) (on_total (λ (q : Quad). q.g) (options_total nat_cmp_total))))
 
 flipped : (o : Ordering) → is_lt (ordering_reverse o) ≡ is_gt o
 flipped Less = refl
@@ -105,18 +77,12 @@ first_up q (y ∷ ys) a u x i = by i
     by (inr j) = upto total q y x next (u.0 x j)
 
 rest_ascend : (q : Quad) (qs : List Quad) → Ascend (q ∷ qs) → Ascend qs
-rest_ascend q qs a = λ k d l h. (let e : suc k + 1 ≡ suc (k + 1) = omega arith in subst (λ n. is_lt (quad_cmp (get_or (q ∷ qs) n d) (get_or qs k d)) ≡ false) e (a (suc k) d (omega arith) (omega arith)))
+rest_ascend q qs a =
+    λ k d l h. (let e : suc k + 1 ≡ suc (k + 1) = omega arith in subst (λ n. is_lt (quad_cmp (get_or (q ∷ qs) n d) (get_or qs k d)) ≡ false) e (a (suc k) d (omega arith) (omega arith)))
 
 up_from : (qs : List Quad) → Ascend qs → Up qs
 up_from [] a = tt
 up_from (q ∷ qs) a = (let u = up_from qs (rest_ascend q qs a) in (first_up q qs a u, u))
-
-In-kept-quads : (q : Quad) (quads : List Quad) (live : List Bool) → In q (kept quads live) → In q quads
-In-kept-quads q [] live i = absurd i
-In-kept-quads q (x ∷ xs) [] i = absurd i
-In-kept-quads q (x ∷ xs) (true ∷ bs) (inl e) = inl e
-In-kept-quads q (x ∷ xs) (true ∷ bs) (inr i) = inr (In-kept-quads q xs bs i)
-In-kept-quads q (x ∷ xs) (false ∷ bs) i = inr (In-kept-quads q xs bs i)
 
 up_kept : (quads : List Quad) (live : List Bool) → Up quads → Up (kept quads live)
 up_kept [] live u = tt
@@ -124,14 +90,9 @@ up_kept (q ∷ qs) [] u = tt
 up_kept (q ∷ qs) (true ∷ bs) u = (λ x i. u.0 x (In-kept-quads x qs bs i), up_kept qs bs u.1)
 up_kept (q ∷ qs) (false ∷ bs) u = up_kept qs bs u.1
 
-In-at-next : (qs : List Quad) (k : ℕ) (d : Quad) → k < length qs → In (get_or qs k d) qs
-In-at-next [] k d l = absurd (omega arith)
-In-at-next (q ∷ qs) zero d l = inl refl
-In-at-next (q ∷ qs) (suc k) d l = inr (In-at-next qs k d (omega arith))
-
 pairs : (qs : List Quad) → Up qs → (k : ℕ) (d : Quad) → suc k < length qs → is_lt (quad_cmp (get_or qs (suc k) d) (get_or qs k d)) ≡ false
 pairs [] u k d l = absurd (omega arith)
-pairs (q ∷ qs) u zero d l = not_less q (get_or qs 0 d) ∙ u.0 (get_or qs 0 d) (In-at-next qs 0 d (omega arith))
+pairs (q ∷ qs) u zero d l = not_less q (get_or qs 0 d) ∙ u.0 (get_or qs 0 d) (In-get_or qs 0 d (omega arith))
 pairs (q ∷ qs) u (suc k) d l = pairs qs u.1 k d (omega arith)
 
 ascend_from : (qs : List Quad) → Up qs → Ascend qs
@@ -142,16 +103,15 @@ Ascend-kept quads live a = ascend_from (kept quads live) (up_kept quads live (up
 
 -- ---- a graph without names
 
-pub no_name : (o : Option ℕ) → (¬ (o ≡ None)) → (n : ℕ) × (o ≡ Some n)
-no_name None h = absurd (h refl)
-no_name (Some n) h = (n, refl)
-
 graph_of_quads : (d : Document) → IsOneGraph d → IsGraph (statements d)
-graph_of_quads d one = All-from_each (λ st. st.graph_name ≡ None) (statements d) (λ st i. (let p = from_In-map (statement d.terms) d.quads st i in ap (λ (x : Statement). x.graph_name) p.2 ∙ ap (graph_name_at d.terms) (one.unnamed p.0 p.1)))
+graph_of_quads d one =
+    All-from_each (λ st. st.graph_name ≡ None) (statements d) (λ st i. (let p = from_In-map (statement d.terms) d.quads st i in ap (λ (x : Statement). x.graph_name) p.2
+    ∙ ap (graph_name_at d.terms) (one.unnamed p.0 p.1)))
 
 -- ---- the form
 
-module _ (d : Document) (one : IsOneGraph d) (limit : ℕ) (s : State) (lean : IsLeanState d limit s) (form : LeanForm) (quads_are : form.quads ≡ kept d.quads s.live) (ascend : Ascend form.quads) (by_steps : IsMapBy d s.steps form.map) where
+module _ (d : Document) (one : IsOneGraph d) (limit : ℕ) (s : State) (lean : IsLeanState d limit s) (form : LeanForm) (quads_are : form.quads ≡ kept d.quads s.live) (ascend : Ascend form.quads)
+    (by_steps : IsMapBy d s.steps form.map) where
   same_image : (n : ℕ) → n < length d.labels → lean.μ n ≡ map_by d.terms form.map n
   same_image n l =
       let p = by_steps.each n l in
@@ -190,7 +150,8 @@ module _ (d : Document) (one : IsOneGraph d) (limit : ℕ) (s : State) (lean : I
     searched = subst (λ qs. (n : ℕ) → IsUsed (map (statement d.terms) qs) n → IsWithinSearch (map (statement d.terms) qs) limit n) (sym quads_are) lean.searched;
   }
 
-pub is_one_graph : (d : Document) (named : Option Quad) → IsDocument d → AreDistinct d.terms → AreDistinct d.quads → All (IsInRange d.terms) d.quads → IfNone named (All (λ q. q.g ≡ None) d.quads) → IfNone named (IsOneGraph d)
+pub is_one_graph : (d : Document) (named : Option Quad) → IsDocument d → AreDistinct d.terms → AreDistinct d.quads → All (IsInRange d.terms) d.quads → IfNone named (All (λ q. q.g ≡ None) d.quads)
+    → IfNone named (IsOneGraph d)
 is_one_graph d (Some q) document terms quads range none = tt
 is_one_graph d None document terms quads range none = record {
   document = document;
@@ -202,18 +163,15 @@ is_one_graph d None document terms quads range none = record {
 
 -- ---- the number that a node's term is taken to
 
-pub push_each : (P : ℕ → ℕ → Type 0) (xs : List ℕ) (n x : ℕ) → length xs ≡ n → ((k : ℕ) → k < n → P k (get_or xs k 0)) → P n x → (k : ℕ) → k < n + 1 → P k (get_or (xs ++ x ∷ []) k 0)
-push_each P [] n x e h p zero l = subst (λ m. P m x) (sym e) p
-push_each P [] n x e h p (suc k) l = absurd (omega arith)
-push_each P (y ∷ ys) n x e h p zero l = h 0 (omega arith)
-push_each P (y ∷ ys) n x e h p (suc k) l = push_each (λ m. P (suc m)) ys (length ys) x refl (λ j m. h (suc j) (omega arith)) (subst (λ m. P m x) (sym e) p) k (omega arith)
-
-pub map_by_form : (d : Document) (steps : List Step) (to map : List ℕ) → length map ≡ length d.labels → ((k : ℕ) → k < length d.terms → get_or to k 0 ≡ map_by_steps steps k) → ((n : ℕ) → n < length d.labels → IsNodeMapped d to n (get_or map n 0)) → IsMapBy d steps map
-map_by_form d steps to map e each mapped = record { count = e; each = λ n l. (let p = mapped n l in (p.number, p.number_is, p.mapped_is ∙ each p.number (slice_get_within d.terms p.number (Blank n) p.number_is))) }
+pub map_by_form : (d : Document) (steps : List Step) (to map : List ℕ) → length map ≡ length d.labels → ((k : ℕ) → k < length d.terms → get_or to k 0 ≡ map_by_steps steps k)
+    → ((n : ℕ) → n < length d.labels → IsNodeMapped d to n (get_or map n 0)) → IsMapBy d steps map
+map_by_form d steps to map e each mapped =
+    record { count = e; each = λ n l. (let p = mapped n l in (p.number, p.number_is, p.mapped_is ∙ each p.number (slice_get_within d.terms p.number (Blank n) p.number_is))) }
 
 -- ---- a component past the limit
 
-pub is_past_limit : (d : Document) (limit : ℕ) (s : State) (quads : List Quad) → IsOneGraph d → quads ≡ kept d.quads s.live → Ascend quads → IsPastSearch (statements d) (left d s.live) limit → IsPastLimit d limit quads
+pub is_past_limit : (d : Document) (limit : ℕ) (s : State) (quads : List Quad) → IsOneGraph d → quads ≡ kept d.quads s.live → Ascend quads → IsPastSearch (statements d) (left d s.live) limit
+    → IsPastLimit d limit quads
 is_past_limit d limit s quads one e ascend past = record {
   graph = graph_of_quads d one;
   ascend = ascend;

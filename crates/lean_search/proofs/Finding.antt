@@ -1,9 +1,7 @@
 -- What the ending of a search of a walk means.
-use Rattle.std.proofs.Common.{◌≡◌, ℕ, ◌<◌, ◌↔◌, Bool, true, false, List, [], ◌∷◌, ◌++◌, length, map, get_or, Result, Ok, Err, IfOk, refl, sym, ap, ◌∙◌, subst, inl, inr, arith}
-use Rattle.std.specs.List.{All}
+use Rattle.std.proofs.Common.{ℕ, ◌<◌, List, length, map, Result, Ok, Err, IfOk, sym, ◌∙◌, subst}
 use Rattle.std.proofs.lemmas.List.{length-map}
 use Rattle.std.proofs.lemmas.List.Elements.{All-from_get_or}
-use Rattle.rdf_terms.specs.Lists.{In, AreDistinct}
 use Rattle.rdf_terms.specs.Document.{Document}
 use Rattle.map_search.specs.Ends.{IsEnding}
 use Rattle.map_search.specs.Index.{IndexView, graph_of, meets_in, kept}
@@ -34,12 +32,17 @@ module _ (d : Document) (i : IndexView) (one : IsOneGraph d) (index : IsIndexOf 
       (subst (λ qs. IsEnding i.terms (fits_rows (meets_in (kept qs i.live)) (map conditions rows)) (length rows) (misses_node own) limit ending) index.quads_are e))
 
   means : (ending : Ending) → Ends ending → MeansByTerms d.terms (quads_left d i.live) own walk limit ending
-  means ending e = endings_mean_by_terms d.terms (quads_left d i.live) own walk limit ending numbers (endings_mean (quads_left d i.live) own (map conditions rows) (length d.terms) (meets_in (quads_left d i.live)) (misses_node own) limit ending search (nodes_tell (quads_left d i.live) own (AreDistinct-kept d.quads i.live one.quads_once) numbers.once numbers.used) (ends ending e))
+  means ending e =
+      endings_mean_by_terms d.terms (quads_left d i.live) own walk limit ending numbers (endings_mean (quads_left d i.live) own (map conditions rows) (length d.terms) (meets_in (quads_left d i.live))
+      (misses_node own) limit ending search (nodes_tell (quads_left d i.live) own (AreDistinct-kept d.quads i.live one.quads_once) numbers.once numbers.used) (ends ending e))
 
   images : (ending : Ending) → Ends ending → AreImages (length d.terms) own ending
   images (Found xs) e =
-      let f = ends (Found xs) e in
-      (f.is_sought.whole ∙ search.rows_are.count, All-from_get_or (λ t. t < length d.terms) xs.items 0 (λ k l. (each_from_is_map (length d.terms) (fits_rows (meets_in (quads_left d i.live)) (map conditions rows)) xs.items f.is_sought.is_map k l).0))
+      let f = ends (Found xs) e in (
+        f.is_sought.whole ∙ search.rows_are.count,
+        All-from_get_or (λ t. t < length d.terms) xs.items 0
+            (λ k l. (each_from_is_map (length d.terms) (fits_rows (meets_in (quads_left d i.live)) (map conditions rows)) xs.items f.is_sought.is_map k l).0),
+      )
   images Nothing e = tt
   images PastLimit e = tt
 

@@ -8,6 +8,7 @@ pub mod Shrinking
 pub mod Composing
 pub mod Asking
 pub mod Settling
+pub mod Setting
 pub mod Placing
 pub mod Reaching
 pub mod Finding

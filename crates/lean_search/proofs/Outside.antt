@@ -1,11 +1,8 @@
 -- The steps of the search of a whole graph.
-use Rattle.std.proofs.Common.{◌≡◌, ℕ, ◌+◌, ◌<◌, ◌≤◌, ◌⊎◌, Bool, true, false, List, [], map, refl, sym, ap, ◌∙◌, subst, inl, inr, true≢false, arith}
-use Rattle.rdf_terms.specs.Lists.{In, AreDistinct}
-use Rattle.rdf_terms.specs.Terms.{Statement}
-use Rattle.rdf_terms.specs.Dataset.{mentions, IsUsed}
+use Rattle.std.proofs.Common.{◌≡◌, ℕ, ◌+◌, ◌<◌, ◌≤◌, ◌⊎◌, Bool, true, false, List, refl, sym, ap, ◌∙◌, subst, inl, inr, true≢false, arith}
+use Rattle.rdf_terms.proofs.Common.{In, AreDistinct, Statement, IsUsed, In-map}
 use Rattle.rdf_terms.specs.declared.term.Term.{Term}
 use Rattle.rdf_terms.specs.declared.term.Term.TheVariants.{Blank}
-use Rattle.rdf_terms.proofs.Membership.{In-map}
 use Rattle.graph_model.specs.Graphs.{mapped_triple, composed, IsImage, IsLean, IsReached}
 use Rattle.graph_model.specs.Components.{IsMapOf}
 use Rattle.graph_model.specs.Counts.{IsWithinSearch}
@@ -27,7 +24,8 @@ search_begins limit G settled d none = record {
     kept : (st : Statement) → In st G → In (mapped_triple Blank st) G
     kept st there = subst (λ x. In x G) (sym (mapped_triple-kept Blank st (λ n e. refl))) there
 
-pub search_shrinks : (limit : ℕ) (G H I : List Statement) (μ ν : ℕ → Term) (settled : ℕ → Bool) (from : ℕ) (walk : List ℕ) → IsSearching limit G μ H settled from → IsMapOf H walk ν → IsImage ν H I → ((n : ℕ) → In n walk → settled n ≡ false) → IsSearching limit G (composed μ ν) I settled from
+pub search_shrinks : (limit : ℕ) (G H I : List Statement) (μ ν : ℕ → Term) (settled : ℕ → Bool) (from : ℕ) (walk : List ℕ) → IsSearching limit G μ H settled from → IsMapOf H walk ν → IsImage ν H I
+    → ((n : ℕ) → In n walk → settled n ≡ false) → IsSearching limit G (composed μ ν) I settled from
 search_shrinks limit G H I μ ν settled from walk s m image unmarked = record {
   shrunk = endomorphisms_compose G H I μ ν s.shrunk second;
   settled_are = λ n e. moved n (s.settled_are n e);
@@ -45,7 +43,8 @@ search_shrinks limit G H I μ ν settled from walk s m image unmarked = record {
       all = i.all;
     }
 
-pub search_settles : (limit : ℕ) (G H : List Statement) (μ : ℕ → Term) (before after : ℕ → Bool) (from : ℕ) (walk : List ℕ) → IsSearching limit G μ H before from → IsSettled H limit walk → Marks walk before after → IsSearching limit G μ H after from
+pub search_settles : (limit : ℕ) (G H : List Statement) (μ : ℕ → Term) (before after : ℕ → Bool) (from : ℕ) (walk : List ℕ) → IsSearching limit G μ H before from → IsSettled H limit walk
+    → Marks walk before after → IsSearching limit G μ H after from
 search_settles limit G H μ before after from walk s settled m = record {
   shrunk = s.shrunk;
   settled_are = λ n e. by n (m.only n e);
@@ -63,7 +62,8 @@ search_settles limit G H μ before after from walk s settled m = record {
 above : (a b : ℕ) → a ≤ b → (a ≡ b) ⊎ (a + 1 ≤ b)
 above a b l = grind arith
 
-pub search_goes_on : (limit : ℕ) (G H : List Statement) (μ : ℕ → Term) (settled : ℕ → Bool) (from : ℕ) → IsSearching limit G μ H settled from → (settled from ≡ true) ⊎ (¬ (IsUsed H from)) → IsSearching limit G μ H settled (from + 1)
+pub search_goes_on : (limit : ℕ) (G H : List Statement) (μ : ℕ → Term) (settled : ℕ → Bool) (from : ℕ) → IsSearching limit G μ H settled from → (settled from ≡ true) ⊎ (¬ (IsUsed H from))
+    → IsSearching limit G μ H settled (from + 1)
 search_goes_on limit G H μ settled from s passed = record {
   shrunk = s.shrunk;
   settled_are = s.settled_are;
@@ -75,8 +75,10 @@ search_goes_on limit G H μ settled from s passed = record {
     by n u e (inl f) (inl m) = absurd (true≢false (sym m ∙ (ap settled f ∙ e)))
     by n u e (inl f) (inr none) = absurd (none (subst (IsUsed H) (sym f) u))
 
-pub search_ends : (limit : ℕ) (G H : List Statement) (μ : ℕ → Term) (settled : ℕ → Bool) (nodes : ℕ) → IsSearching limit G μ H settled nodes → ((n : ℕ) → IsUsed H n → n < nodes) → IsLean H × ((n : ℕ) → IsUsed H n → IsWithinSearch H limit n)
-search_ends limit G H μ settled nodes s bound = (tight_components_are_lean H (λ st n there e. tight n (is_in n (record { statement = st; there = there; mentioned = e }) (settled n) refl)), λ n u. searched n (is_in n u (settled n) refl))
+pub search_ends : (limit : ℕ) (G H : List Statement) (μ : ℕ → Term) (settled : ℕ → Bool) (nodes : ℕ) → IsSearching limit G μ H settled nodes → ((n : ℕ) → IsUsed H n → n < nodes)
+    → IsLean H × ((n : ℕ) → IsUsed H n → IsWithinSearch H limit n)
+search_ends limit G H μ settled nodes s bound =
+    (tight_components_are_lean H (λ st n there e. tight n (is_in n (record { statement = st; there = there; mentioned = e }) (settled n) refl)), λ n u. searched n (is_in n u (settled n) refl))
   where
     is_in : (n : ℕ) → IsUsed H n → (b : Bool) → settled n ≡ b → IsInSettled limit H settled n
     is_in n u true f = s.settled_are n f

@@ -1,31 +1,21 @@
 -- The places of the triples of a walk, and of those that they are carried to.
-use Rattle.std.proofs.Common.{◌≡◌, ℕ, zero, suc, ◌+◌, ◌<◌, ◌≤◌, ◌⊎◌, ◌↔◌, ◌==◌, Bool, true, false, List, [], ◌∷◌, ◌++◌, length, take, get_or, set, Option, Some, None, IfSome, slice_get, refl, sym, ap, ◌∙◌, subst, inl, inr, arith, true≢false, eq-eqb}
+use Rattle.std.proofs.Common.{◌≡◌, ℕ, ◌+◌, ◌<◌, ◌≤◌, ◌↔◌, Bool, true, List, [], ◌∷◌, ◌++◌, length, take, get_or, Option, Some, None, IfSome, sym, ap, ◌∙◌, subst, inl, inr, arith}
 use Rattle.std.specs.List.{filter}
 use Rattle.std.specs.Option.{IfNone, option_to_list}
-use Rattle.std.proofs.lemmas.List.{take_all, length-set, get_or-set_same, get_or-set_other}
-use Rattle.rdf_terms.specs.Lists.{In, AreDistinct}
-use Rattle.rdf_terms.specs.Document.{Document, statement, statements}
-use Rattle.rdf_terms.specs.Dataset.{mentions}
-use Rattle.rdf_terms.specs.declared.term.Quad.{Quad}
-use Rattle.rdf_terms.proofs.Membership.{In-append, In-append_left, In-append_right}
+use Rattle.std.proofs.lemmas.List.{take_all}
+use Rattle.rdf_terms.proofs.Common.{In, AreDistinct, Document, statement, statements, mentions, In-append, In-append_left, In-append_right, decide_in, place_within}
 use Rattle.dataset_index.specs.Mentions.{places_of}
-use Rattle.graph_model.proofs.Closed.{decide_in}
 use Rattle.map_search.specs.Index.{quad_at}
 use Rattle.map_search.specs.Marks.{mark_at}
 use Rattle.map_search.specs.Pattern.{carried, map_of}
 use Rattle.map_search.proofs.Images.{map_of-at, map_of-kept}
-use Rattle.lean_search.specs.Image.{IsOneGraph, IsPlaceOfWalk, IsReachedFrom}
+use Rattle.lean_search.specs.Image.{IsPlaceOfWalk, IsReachedFrom}
 use Rattle.lean_search.specs.Places.{ArePlaces}
 use Rattle.lean_search.specs.declared.places.TheConstants.{NONE}
-use Rattle.rdf_terms.proofs.MadeLists.{place_within}
 use Rattle.lean_search.proofs.AtNodes.{place_left, left_place, In-quad_at}
-use Rattle.lean_search.proofs.Placing.{In-take-less, In-take-last}
+use Rattle.lean_search.proofs.Setting.{In-take-less, In-take-last, In-take-split}
 use Rattle.lean_search.proofs.Shrinking.{one_quad_place}
 use Rattle.rdf_terms.specs.declared.limits.TheConstants.{MOST_NUMBERS}
-use Rattle.lean_search.proofs.Walking.{In-take-split}
-
-same_or_other : (x y : ℕ) → (x ≡ y) ⊎ (¬ (x ≡ y))
-same_or_other x y = grind arith
 
 -- ---- images, by the places of terms
 
@@ -54,26 +44,6 @@ image_kept terms place_of own images are few x e = sym (map_of-kept own images x
 pub image_at : (place_of own images : List ℕ) (x : ℕ) → AreDistinct own → length images ≡ length own → IsPlaced place_of own x → get_or images (get_or place_of x 0) 0 ≡ map_of own images x
 image_at place_of own images x once count p =
     ap (λ k. get_or images k 0) p.is ∙ (sym (map_of-at own images p.place once (omega arith) (let l = p.within in omega arith)) ∙ ap (map_of own images) p.there)
-
--- ---- marks that are set
-
-pub record AreSet (first now : List Bool) (places : List ℕ) (there : Bool) (n : ℕ) : Type 0 where
-  pub count : length now ≡ length first
-  pub here : (k : ℕ) → In k (take n places) → k < length first → mark_at now k ≡ there
-  pub others : (k : ℕ) → (¬ (In k (take n places))) → mark_at now k ≡ mark_at first k
-
-pub set_next : (first now : List Bool) (places : List ℕ) (there : Bool) (n : ℕ) → n < length places → AreSet first now places there n
-    → AreSet first (set now (get_or places n 0) there) places there (n + 1)
-set_next first now places there n l h = record {
-  count = length-set now (get_or places n 0) there ∙ h.count;
-  here = λ k i w. by k i w (same_or_other k (get_or places n 0));
-  others = λ k out. get_or-set_other now (get_or places n 0) k there false (λ e. out (subst (λ x. In x (take (n + 1) places)) (sym e) (In-take-last places n l)))
-      ∙ h.others k (λ i. out (In-take-less places n k i));
-}
-  where
-    by : (k : ℕ) → In k (take (n + 1) places) → k < length first → (k ≡ get_or places n 0) ⊎ (¬ (k ≡ get_or places n 0)) → mark_at (set now (get_or places n 0) there) k ≡ there
-    by k i w (inl e) = ap (mark_at (set now (get_or places n 0) there)) e ∙ get_or-set_same now (get_or places n 0) there false (let c = h.count in omega arith)
-    by k i w (inr o) = get_or-set_other now (get_or places n 0) k there false o ∙ elim (In-take-split places n k i) [ inl j ↦ h.here k j w | inr e ↦ absurd (o e) ]
 
 -- ---- the places of a walk
 

@@ -1,23 +1,17 @@
 -- The search of a graph, from component to component.
-use Rattle.std.proofs.Common.{◌≡◌, ℕ, zero, suc, ◌+◌, ◌<◌, ◌≤◌, ◌⊎◌, ◌↔◌, Bool, true, false, List, [], ◌∷◌, ◌++◌, length, map, get_or, Option, Some, None, slice_get, refl, sym, ap, ◌∙◌, subst, inl, inr, arith, true≢false}
+use Rattle.std.proofs.Common.{◌≡◌, ℕ, suc, ◌+◌, ◌<◌, ◌≤◌, ◌↔◌, Bool, true, false, List, [], ◌∷◌, ◌++◌, length, map, refl, sym, ap, ◌∙◌, subst, inl, inr, arith, true≢false}
 use Rattle.std.specs.List.{All}
 use Rattle.std.proofs.lemmas.List.Elements.{All-push, All-nil}
-use Rattle.std.proofs.lemmas.Option.{get_or_from_slice_get, slice_get_within}
-use Rattle.rdf_terms.specs.Lists.{In, AreDistinct, numbers_below}
-use Rattle.rdf_terms.specs.Terms.{Statement}
-use Rattle.rdf_terms.specs.Dataset.{mentions, IsUsed}
-use Rattle.rdf_terms.specs.Document.{Document, statement, statements, term_at, IsInRange}
+use Rattle.rdf_terms.proofs.Common.{In, AreDistinct, numbers_below, Statement, IsUsed, Document, statement, statements, term_at, In-map, from_In-map, In-numbers_below, length-numbers_below, All-from_each, AreDistinct-map}
 use Rattle.rdf_terms.specs.declared.term.Term.{Term}
 use Rattle.rdf_terms.specs.declared.term.Term.TheVariants.{Iri, Blank, Literal}
 use Rattle.rdf_terms.specs.declared.term.Quad.{Quad}
-use Rattle.rdf_terms.proofs.Membership.{In-map, from_In-map}
 use Rattle.dataset_index.proofs.Building.{AreDistinct-from_map}
 use Rattle.graph_model.specs.Graphs.{mapped, composed}
-use Rattle.graph_model.specs.Components.{IsClosed, IsComponentWalk, IsMapOf, IsTight}
+use Rattle.graph_model.specs.Components.{IsTight}
 use Rattle.graph_model.specs.Counts.{HasMoreMaps, IsPastSearch}
 use Rattle.graph_model.specs.Laws.{IsSettled}
 use Rattle.graph_model.proofs.Counting.{length-within}
-use Rattle.rdf_terms.proofs.Ranks.{In-numbers_below, length-numbers_below}
 use Rattle.map_search.specs.Index.{kept, quad_at}
 use Rattle.map_search.specs.Laws.{IsInTriple}
 use Rattle.map_search.specs.Marks.{mark_at}
@@ -26,7 +20,7 @@ use Rattle.map_search.specs.Pattern.{map_of, Misses}
 use Rattle.map_search.proofs.Bridging.{number_is}
 use Rattle.map_search.proofs.Indexing.{In-kept, kept-In}
 use Rattle.lean_search.specs.Image.{IsOneGraph, AreTermsOf, left, quads_left}
-use Rattle.lean_search.specs.Outer.{IsInSettled, IsSearching, Marks}
+use Rattle.lean_search.specs.Outer.{IsSearching, Marks}
 use Rattle.lean_search.specs.Searched.{AreFewInOrder, IsLeanState, IsMarkedAs, IsSearchedAs, IsSettledTo, IsShrinking, IsTurned, IsUnderway, State, TakesStep}
 use Rattle.lean_search.specs.declared.component.Searched.{Searched}
 use Rattle.lean_search.specs.declared.component.Searched.TheVariants.{Tight, Shrunk, PastLimit as Stopped}
@@ -38,18 +32,20 @@ use Rattle.lean_search.proofs.Composing.{agrees_composed}
 use Rattle.lean_search.proofs.Outside.{search_begins, search_shrinks, search_settles, search_goes_on, search_ends}
 use Rattle.lean_search.proofs.Shrinking.{fewer_left, is_image}
 use Rattle.lean_search.proofs.Walks.{IsMapOf-same, IsTight-same, walk_once, walk_used, walk_start, walk_closed, walk_began}
-use Rattle.rdf_terms.proofs.MadeLists.{All-from_each, AreDistinct-map}
 
 -- ---- the numbers of a walk's terms
 
-pub numbers_of : (d : Document) (live : List Bool) (start : ℕ) (walk own : List ℕ) → IsOneGraph d → IsWalkFrom (left d live) start walk → AreTermsOf d walk own → ((k : ℕ) → In k own → k < length d.terms) → AreNumbers d.terms (quads_left d live) own walk
+pub numbers_of : (d : Document) (live : List Bool) (start : ℕ) (walk own : List ℕ) → IsOneGraph d → IsWalkFrom (left d live) start walk → AreTermsOf d walk own
+    → ((k : ℕ) → In k own → k < length d.terms) → AreNumbers d.terms (quads_left d live) own walk
 numbers_of d live start walk own one w terms_are within = record {
   terms_once = one.terms_once;
   in_range = λ q i. one.in_range q (there q i);
   unnamed = λ q i. one.unnamed q (there q i);
   once = AreDistinct-from_map (term_at d.terms) own (subst AreDistinct (sym terms_are) (AreDistinct-map Blank walk (λ x y i j e. same x y e) (walk_once (left d live) start walk w)));
   nodes_are = terms_are;
-  used = λ k i. (let p = from_In-map Blank walk (term_at d.terms k) (subst (λ l. In (term_at d.terms k) l) terms_are (In-map (term_at d.terms) own k i)) in in_triple k p.0 (within k i) p.2 (left_used d live p.0 (walk_used (left d live) start walk w p.0 p.1)));
+  used =
+      λ k i. (let p = from_In-map Blank walk (term_at d.terms k) (subst (λ l. In (term_at d.terms k) l) terms_are (In-map (term_at d.terms) own k i))
+      in in_triple k p.0 (within k i) p.2 (left_used d live p.0 (walk_used (left d live) start walk w p.0 p.1)));
 }
   where
     same : (x y : ℕ) → Blank x ≡ Blank y → x ≡ y
@@ -64,7 +60,11 @@ numbers_of d live start walk own one w terms_are within = record {
         record {
           triple = quad_at d.quads p.0;
           there = kept-In d.quads live p.0 p.1.within p.1.is_left;
-          end = elim (mentioned_end d one p.0 n p.1.within p.1.mentioned) [ inl f ↦ inl (number_is d.terms one.terms_once k (quad_at d.quads p.0).s l r.s (e ∙ sym f)) | inr f ↦ inr (number_is d.terms one.terms_once k (quad_at d.quads p.0).o l r.o (e ∙ sym f)) ];
+          end =
+              elim (mentioned_end d one p.0 n p.1.within p.1.mentioned) [
+                | inl f ↦ inl (number_is d.terms one.terms_once k (quad_at d.quads p.0).s l r.s (e ∙ sym f))
+                | inr f ↦ inr (number_is d.terms one.terms_once k (quad_at d.quads p.0).o l r.o (e ∙ sym f))
+              ];
         }
 
 pub walk_within : (d : Document) (live : List Bool) (walk : List ℕ) → IsOneGraph d → IsWalk (left d live) walk → All (λ n. n < length d.labels) walk
@@ -106,7 +106,9 @@ module _ (d : Document) (s : State) (settled : ℕ → Bool) (start : ℕ) (limi
     pub passed_tight : (after : ℕ → Bool) → IsTight (left d s.live) walk → AreFewInOrder (left d s.live) limit walk → Marks walk settled after → IsUnderway d limit s after (start + 1)
     passed_tight after tight few marks = record {
       μ = u.μ;
-      searching = search_goes_on limit (statements d) (left d s.live) u.μ after start (search_settles limit (statements d) (left d s.live) u.μ settled after start few.order u.searching (settled_in_order tight few) (marks_in few marks)) (inl (marks.marks start (walk_start (left d s.live) start walk w)));
+      searching =
+          search_goes_on limit (statements d) (left d s.live) u.μ after start (search_settles limit (statements d) (left d s.live) u.μ settled after start few.order u.searching
+          (settled_in_order tight few) (marks_in few marks)) (inl (marks.marks start (walk_start (left d s.live) start walk w)));
       are_steps = u.are_steps;
       agrees = u.agrees;
     }
@@ -140,7 +142,9 @@ module _ (d : Document) (s : State) (settled : ℕ → Bool) (start : ℕ) (limi
         rest = w.rest;
         walk_is = w.walk_is;
         used = w.used;
-        least = All-from_each (λ n. start ≤ n) w.rest (λ n i. (let j : In n walk = subst (λ l. In n l) (sym w.walk_is) (inr i) in u.searching.ahead n (walk_used (left d s.live) start walk w n j) (open_walk f n j)));
+        least =
+            All-from_each (λ n. start ≤ n) w.rest (λ n i. (let j : In n walk = subst (λ l. In n l) (sym w.walk_is) (inr i)
+            in u.searching.ahead n (walk_used (left d s.live) start walk w n j) (open_walk f n j)));
         goes_on = w.goes_on;
       };
       past = more;
@@ -171,8 +175,10 @@ step_shrinks d old new walk own images one a b once range count images_range sai
 )
 
 -- what was found of a walk was found of one with the same nodes, but for the measure of the search
-pub searched_same : (d : Document) (xs ys : List ℕ) (limit : ℕ) (old new : State) (r : Searched) → ((n : ℕ) → In n xs ↔ In n ys) → (¬ (r ≡ Stopped)) → IsSearchedAs d xs limit old new r → IsSearchedAs d ys limit old new r
-searched_same d xs ys limit old new Tight same n s = (s.0, IsTight-same (left d old.live) xs ys same s.1, record { order = s.2.order; same = λ k. (let a = s.2.same k in let b = same k in (λ i. b.0 (a.0 i), λ i. a.1 (b.1 i))); few = s.2.few })
+pub searched_same : (d : Document) (xs ys : List ℕ) (limit : ℕ) (old new : State) (r : Searched) → ((n : ℕ) → In n xs ↔ In n ys) → (¬ (r ≡ Stopped)) → IsSearchedAs d xs limit old new r
+    → IsSearchedAs d ys limit old new r
+searched_same d xs ys limit old new Tight same n s =
+    (s.0, IsTight-same (left d old.live) xs ys same s.1, record { order = s.2.order; same = λ k. (let a = s.2.same k in let b = same k in (λ i. b.0 (a.0 i), λ i. a.1 (b.1 i))); few = s.2.few })
 searched_same d xs ys limit old new Shrunk same n s = (
   s.0,
   s.1,
@@ -200,10 +206,13 @@ mapped-itself (Iri t) = refl
 mapped-itself (Blank n) = refl
 mapped-itself (Literal l) = refl
 
-pub underway_begins : (d : Document) (limit : ℕ) (s : State) (settled : ℕ → Bool) → IsOneGraph d → ((k : ℕ) → k < length d.quads → mark_at s.live k ≡ true) → s.steps ≡ [] → ((n : ℕ) → settled n ≡ false) → IsUnderway d limit s settled 0
+pub underway_begins : (d : Document) (limit : ℕ) (s : State) (settled : ℕ → Bool) → IsOneGraph d → ((k : ℕ) → k < length d.quads → mark_at s.live k ≡ true) → s.steps ≡ []
+    → ((n : ℕ) → settled n ≡ false) → IsUnderway d limit s settled 0
 underway_begins d limit s settled one all none unmarked = record {
   μ = Blank;
-  searching = subst (λ qs. IsSearching limit (statements d) Blank (map (statement d.terms) qs) settled 0) (sym (kept-all d.quads s.live all)) (search_begins limit (statements d) settled one.document.draft.distinct unmarked);
+  searching =
+      subst (λ qs. IsSearching limit (statements d) Blank (map (statement d.terms) qs) settled 0) (sym (kept-all d.quads s.live all))
+      (search_begins limit (statements d) settled one.document.draft.distinct unmarked);
   are_steps = subst (AreSteps (length d.terms)) (sym none) (All-nil (IsStep (length d.terms)));
   agrees = subst (λ steps. Agrees d.terms Blank (map_by_steps steps)) (sym none) (record { within = λ k l. l; same = λ k l. mapped-itself (term_at d.terms k) });
 }
@@ -219,26 +228,34 @@ underway_ends d limit s settled one u = record {
 }
 
 pub underway_passed : (d : Document) (limit : ℕ) (s : State) (settled : ℕ → Bool) (start : ℕ) → settled start ≡ true → IsUnderway d limit s settled start → IsUnderway d limit s settled (start + 1)
-underway_passed d limit s settled start e u = record { μ = u.μ; searching = search_goes_on limit (statements d) (left d s.live) u.μ settled start u.searching (inl e); are_steps = u.are_steps; agrees = u.agrees }
+underway_passed d limit s settled start e u =
+    record { μ = u.μ; searching = search_goes_on limit (statements d) (left d s.live) u.μ settled start u.searching (inl e); are_steps = u.are_steps; agrees = u.agrees }
 
 -- ---- one turn
 
-pub turned : (d : Document) (limit start : ℕ) (walk : List ℕ) (old new : State) (before after : List Bool) (r : Searched) → IsUnderway d limit old (mark_at before) start → mark_at before start ≡ false → IsWalkFrom (left d old.live) start walk → IsSearchedAs d walk limit old new r → IsMarkedAs walk before after r → IsTurned d limit start old new after r
-turned d limit start walk old new before after Tight u f w s m = passed_tight d new (mark_at before) start limit (subst (λ t. IsUnderway d limit t (mark_at before) start) (sym s.0) u) walk (subst (λ (t : State). IsWalkFrom (left d t.live) start walk) (sym s.0) w) (mark_at after) (subst (λ (t : State). IsTight (left d t.live) walk) (sym s.0) s.1) (subst (λ (t : State). AreFewInOrder (left d t.live) limit walk) (sym s.0) s.2) m
+pub turned : (d : Document) (limit start : ℕ) (walk : List ℕ) (old new : State) (before after : List Bool) (r : Searched) → IsUnderway d limit old (mark_at before) start → mark_at before start ≡ false
+    → IsWalkFrom (left d old.live) start walk → IsSearchedAs d walk limit old new r → IsMarkedAs walk before after r → IsTurned d limit start old new after r
+turned d limit start walk old new before after Tight u f w s m =
+    passed_tight d new (mark_at before) start limit (subst (λ t. IsUnderway d limit t (mark_at before) start) (sym s.0) u) walk
+    (subst (λ (t : State). IsWalkFrom (left d t.live) start walk) (sym s.0) w) (mark_at after) (subst (λ (t : State). IsTight (left d t.live) walk) (sym s.0) s.1)
+    (subst (λ (t : State). AreFewInOrder (left d t.live) limit walk) (sym s.0) s.2) m
 turned d limit start walk old new before after Shrunk u f w s m = record {
   underway = subst (λ ms. IsUnderway d limit new (mark_at ms) start) (sym m) (still_underway d old (mark_at before) start limit u walk w new s.0 f s.1 s.2);
   unsettled = subst (λ ms. mark_at ms start ≡ false) (sym m) f;
   fewer = s.2.fewer;
 }
-turned d limit start walk old new before after Stopped u f w s m = subst (λ (t : State). IsPastSearch (statements d) (left d t.live) limit) (sym s.0) (past_search d old (mark_at before) start limit u walk w f s.1)
+turned d limit start walk old new before after Stopped u f w s m =
+    subst (λ (t : State). IsPastSearch (statements d) (left d t.live) limit) (sym s.0) (past_search d old (mark_at before) start limit u walk w f s.1)
 
 -- where the graph is searched to its last node
 pub searched_to : (d : Document) (limit : ℕ) (s : State) (settled : List Bool) (from : ℕ) → IsOneGraph d → from ≡ length d.labels → IsUnderway d limit s (mark_at settled) from → IsLeanState d limit s
 searched_to d limit s settled from one e u = underway_ends d limit s (mark_at settled) one (subst (IsUnderway d limit s (mark_at settled)) e u)
 
 -- what it leaves where it stops
-pub past_search_of : (d : Document) (limit : ℕ) (s : State) (settled : List Bool) (from : ℕ) (b : Bool) → b ≡ false → IsSettledTo d limit s (mark_at settled) from b → IsPastSearch (statements d) (left d s.live) limit
+pub past_search_of : (d : Document) (limit : ℕ) (s : State) (settled : List Bool) (from : ℕ) (b : Bool) → b ≡ false → IsSettledTo d limit s (mark_at settled) from b
+    → IsPastSearch (statements d) (left d s.live) limit
 past_search_of d limit s settled from b e h = subst (IsSettledTo d limit s (mark_at settled) from) e h
 
-pub underway_of : (d : Document) (limit : ℕ) (s : State) (settled : List Bool) (from : ℕ) (b : Bool) → b ≡ true → IsSettledTo d limit s (mark_at settled) from b → IsUnderway d limit s (mark_at settled) from
+pub underway_of : (d : Document) (limit : ℕ) (s : State) (settled : List Bool) (from : ℕ) (b : Bool) → b ≡ true → IsSettledTo d limit s (mark_at settled) from b
+    → IsUnderway d limit s (mark_at settled) from
 underway_of d limit s settled from b e h = subst (IsSettledTo d limit s (mark_at settled) from) e h

@@ -1,37 +1,25 @@
 -- What a map of a walk leaves of the graph is its image, and smaller.
-use Rattle.std.proofs.Common.{◌≡◌, ℕ, zero, suc, ◌+◌, ◌<◌, ◌≤◌, ◌⊎◌, ◌↔◌, Bool, true, false, List, [], ◌∷◌, length, map, Some, slice_get, refl, sym, ap, ◌∙◌, subst, inl, inr, arith, true≢false}
-use Rattle.std.specs.List.{count_by}
+use Rattle.std.proofs.Common.{◌≡◌, ℕ, zero, suc, ◌<◌, ◌≤◌, ◌⊎◌, ◌↔◌, Bool, true, false, List, [], ◌∷◌, length, map, Some, refl, sym, ap, ◌∙◌, subst, inl, inr, arith, true≢false}
 use Rattle.std.proofs.lemmas.Option.{slice_get-get_or}
-use Rattle.rdf_terms.specs.Lists.{In, AreDistinct}
-use Rattle.rdf_terms.specs.Terms.{Statement}
-use Rattle.rdf_terms.specs.Dataset.{mentions}
-use Rattle.rdf_terms.specs.Document.{Document, statement, term_at, IsInRange}
+use Rattle.rdf_terms.proofs.Common.{In, AreDistinct, Statement, is_node, mentions, Document, statement, term_at, IsInRange, In-map, from_In-map, one_place, decide_in, AreDistinct-map}
 use Rattle.rdf_terms.specs.declared.term.Term.{Term}
 use Rattle.rdf_terms.specs.declared.term.Term.TheVariants.{Blank}
 use Rattle.rdf_terms.specs.declared.term.Quad.{Quad}
-use Rattle.rdf_terms.proofs.Membership.{In-map, from_In-map, one_place}
 use Rattle.rdf_terms.proofs.Adding.{statement_injective}
 use Rattle.graph_model.specs.Graphs.{mapped_triple, CarriesInto, IsImage, IsReached}
-use Rattle.graph_model.specs.Laws.{IsShrunk}
-use Rattle.graph_model.proofs.Closed.{decide_in}
 use Rattle.graph_model.proofs.Maps.{by_subject, by_object, image_lies_within}
 use Rattle.map_search.specs.Index.{kept, quad_at, no_quad}
 use Rattle.map_search.specs.Marks.{mark_at}
-use Rattle.map_search.specs.Numbers.{Agrees, IsSaidBy}
+use Rattle.map_search.specs.Numbers.{IsSaidBy}
 use Rattle.map_search.specs.Pattern.{carried, map_of, IsReachedBy, Misses}
 use Rattle.map_search.proofs.Bridging.{blank-is_node, statement_carried, in_range_carried}
 use Rattle.map_search.proofs.Images.{map_of-kept}
 use Rattle.map_search.proofs.Indexing.{In-kept, kept-In}
 use Rattle.lean_search.specs.Image.{IsOneGraph, AreTermsOf, IsPlaceOfWalk, IsReachedFrom, LeavesReached, left, quads_left}
 use Rattle.lean_search.specs.Searched.{count_left}
-use Rattle.lean_search.proofs.AtNodes.{In-left, In-quad_at, HasPlace, has_place}
-use Rattle.rdf_terms.proofs.MadeLists.{AreDistinct-map}
+use Rattle.lean_search.proofs.AtNodes.{In-left, In-quad_at, has_place}
 
 -- ---- lists
-
-decide_end : (b : Bool) → (b ≡ true) ⊎ (b ≡ false)
-decide_end true = inl refl
-decide_end false = inr refl
 
 pub In-kept-quads : (q : Quad) (quads : List Quad) (live : List Bool) → In q (kept quads live) → In q quads
 In-kept-quads q quads live i = (let p = In-kept q quads live i in subst (λ x. In x quads) p.2 (In-quad_at quads p.0 p.1))
@@ -67,33 +55,14 @@ module _ (d : Document) (one : IsOneGraph d) (live now after : List Bool) (walk 
 
   -- a triple elsewhere is carried to itself
   elsewhere : (k : ℕ) → k < length d.quads → mark_at live k ≡ true → (¬ (In k places)) → carried m (quad_at d.quads k) ≡ quad_at d.quads k
-  elsewhere k l e out = λ i. record { s = s i; p = (quad_at d.quads k).p; o = o i; g = (quad_at d.quads k).g }
+  elsewhere k l e out =
+      let s = at_end (quad_at d.quads k).s (by_subject (statement d.terms (quad_at d.quads k))) in
+      let o = at_end (quad_at d.quads k).o (by_object (statement d.terms (quad_at d.quads k))) in
+      λ i. record { s = s i; p = (quad_at d.quads k).p; o = o i; g = (quad_at d.quads k).g }
     where
-      s : m (quad_at d.quads k).s ≡ (quad_at d.quads k).s
-      s = map_of-kept own images (quad_at d.quads k).s
-          (λ i. (let p = node_of_term (quad_at d.quads k).s i in out
-          ((places_are k).1
-          (record {
-            within = l;
-            is_left = e;
-            node = p.0;
-            there = p.1;
-            mentioned = by_subject (statement d.terms (quad_at d.quads k)) p.0
-                (blank-is_node p.0 (term_at d.terms (quad_at d.quads k).s) p.2);
-          }))))
-
-      o : m (quad_at d.quads k).o ≡ (quad_at d.quads k).o
-      o = map_of-kept own images (quad_at d.quads k).o
-          (λ i. (let p = node_of_term (quad_at d.quads k).o i in out
-          ((places_are k).1
-          (record {
-            within = l;
-            is_left = e;
-            node = p.0;
-            there = p.1;
-            mentioned = by_object (statement d.terms (quad_at d.quads k)) p.0
-                (blank-is_node p.0 (term_at d.terms (quad_at d.quads k).o) p.2);
-          }))))
+      at_end : (t : ℕ) → ((n : ℕ) → is_node n (term_at d.terms t) ≡ true → mentions n (statement d.terms (quad_at d.quads k)) ≡ true) → m t ≡ t
+      at_end t mentioned = map_of-kept own images t (λ i. (let p = node_of_term t i in out
+          ((places_are k).1 (record { within = l; is_left = e; node = p.0; there = p.1; mentioned = mentioned p.0 (blank-is_node p.0 (term_at d.terms t) p.2) }))))
 
   reached_by : (k : ℕ) → k < length d.quads → mark_at after k ≡ true → IsReachedBy m H (quad_at d.quads k)
   reached_by k l e = by (decide_in k reached) (decide_in k places)

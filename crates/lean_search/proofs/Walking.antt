@@ -1,22 +1,19 @@
 -- A walk under way, by the marks of the nodes that were walked to and of those ahead.
-use Rattle.std.proofs.Common.{◌≡◌, ℕ, zero, suc, ◌+◌, ◌<◌, ◌≤◌, ◌⊎◌, ◌↔◌, Bool, true, false, not, List, [], ◌∷◌, ◌++◌, length, take, get_or, set, Option, Some, None, IfSome, refl, sym, ap, ◌∙◌, subst, inl, inr, arith, true≢false, add-one}
+use Rattle.std.proofs.Common.{◌≡◌, ℕ, zero, suc, ◌+◌, ◌<◌, ◌≤◌, ◌⊎◌, ◌↔◌, Bool, true, false, List, [], ◌∷◌, ◌++◌, length, take, get_or, set, Option, Some, None, IfSome, refl, sym, ap, ◌∙◌, subst, inl, inr, arith, true≢false}
 use Rattle.std.specs.List.{filter}
+use Rattle.std.proofs.lemmas.Bool.{cases_eq, false_from_ne_true}
 use Rattle.std.specs.Option.{IfNone}
-use Rattle.std.proofs.lemmas.List.{take_all, length-set, get_or-set_same, get_or-set_other}
-use Rattle.rdf_terms.specs.Lists.{In}
-use Rattle.rdf_terms.specs.Terms.{Statement}
-use Rattle.rdf_terms.specs.Dataset.{IsUsed}
-use Rattle.rdf_terms.specs.Document.{Document, statements, term_at}
-use Rattle.rdf_terms.proofs.Membership.{In-append, In-append_left, In-append_right}
+use Rattle.std.proofs.lemmas.List.{take_all, get_or-set_same, get_or-set_other}
+use Rattle.rdf_terms.proofs.Common.{In, Statement, IsUsed, Document, statements, term_at, decide_in, In-append, In-append_left, In-append_right}
 use Rattle.dataset_index.specs.Mentions.{node_in, places_of}
 use Rattle.graph_model.specs.Components.{ShareTriple, MayFollow, Follows}
 use Rattle.map_search.specs.Index.{quad_at}
 use Rattle.map_search.specs.Marks.{mark_at, IsNextMark, NoMark}
 use Rattle.lean_search.specs.Image.{IsOneGraph, left}
-use Rattle.lean_search.specs.Walk.{IsNear, IsWalking, IsNextOf, HasWalked, IsWalkFrom, IsEmpty, count_unmarked}
+use Rattle.lean_search.specs.Walk.{IsNear, IsWalking, IsNextOf, IsWalkFrom, IsEmpty}
 use Rattle.lean_search.proofs.AtNodes.{near_shares, shares_near, used_within}
-use Rattle.lean_search.proofs.Placing.{In-take-less, In-take-last}
-use Rattle.lean_search.proofs.Walks.{WalksTo-push, WalksTo-end}
+use Rattle.lean_search.proofs.Setting.{In-take-less, In-take-last, In-take-split}
+use Rattle.lean_search.proofs.Walks.{HasWalked, WalksTo-push, WalksTo-end}
 
 -- ---- marks
 
@@ -25,13 +22,6 @@ mark_within [] k e = absurd (true≢false (sym e))
 mark_within (b ∷ bs) zero e = omega arith
 mark_within (b ∷ bs) (suc k) e = (let l = mark_within bs k e in omega arith)
 
-pub not_true : (b : Bool) → ¬ (b ≡ true) → b ≡ false
-not_true true n = absurd (n refl)
-not_true false n = refl
-
-same_or_other : (x y : ℕ) → (x ≡ y) ⊎ (¬ (x ≡ y))
-same_or_other x y = grind arith
-
 -- ---- one step
 
 module _ (d : Document) (live : List Bool) (one : IsOneGraph d) (walk : List ℕ) (walked ahead before after : List Bool) (node : ℕ)
@@ -39,7 +29,8 @@ module _ (d : Document) (live : List Bool) (one : IsOneGraph d) (walk : List ℕ
     (within : node < length walked)
     (here : mark_at before node ≡ false)
     (others : (k : ℕ) → (k ≡ node → ⊥) → mark_at before k ≡ mark_at ahead k)
-    (noted : (k : ℕ) → (mark_at after k ≡ true) ↔ ((mark_at before k ≡ true) ⊎ (IsNear d (filter (mark_at live) (places_of (statements d) node)) k × (mark_at (set walked node true) k ≡ false)))) where
+    (places : List ℕ) (places_are : places ≡ filter (mark_at live) (places_of (statements d) node))
+    (marked : (k : ℕ) → (mark_at after k ≡ true) ↔ ((mark_at before k ≡ true) ⊎ (IsNear d places k × (mark_at (set walked node true) k ≡ false)))) where
   abbrev G : List Statement
   G = left d live
 
@@ -50,7 +41,7 @@ module _ (d : Document) (live : List Bool) (one : IsOneGraph d) (walk : List ℕ
   in_longer n i = elim (In-append walk (node ∷ []) n i) [ inl a ↦ inl a | inr b ↦ elim b [ inl e ↦ inr e | inr z ↦ absurd z ] ]
 
   walked_now : (n : ℕ) → (mark_at (set walked node true) n ≡ true) ↔ In n longer
-  walked_now n = by (same_or_other n node)
+  walked_now n = by (cases_eq n node)
     where
       by : (n ≡ node) ⊎ (¬ (n ≡ node)) → (mark_at (set walked node true) n ≡ true) ↔ In n longer
       by (inl e) = (λ _. In-append_right walk (node ∷ []) n (inl e), λ _. ap (mark_at (set walked node true)) e ∙ get_or-set_same walked node true false within)
@@ -63,10 +54,15 @@ module _ (d : Document) (live : List Bool) (one : IsOneGraph d) (walk : List ℕ
 
   to_follow : (n : ℕ) → mark_at after n ≡ true → MayFollow G longer n
   to_follow n m =
-      elim ((noted n).0 m) [
+      elim ((marked n).0 m) [
         | inl b ↦ earlier b
-            (same_or_other n node)
-        | inr p ↦ record { other = node; is_taken = In-append_right walk (node ∷ []) node (inl refl); share = near_shares d live node n p.0; fresh = fresh_now n p.1 }
+            (cases_eq n node)
+        | inr p ↦ record {
+          other = node;
+          is_taken = In-append_right walk (node ∷ []) node (inl refl);
+          share = near_shares d live node n (subst (λ ps. IsNear d ps n) places_are p.0);
+          fresh = fresh_now n p.1;
+        }
       ]
     where
       earlier : mark_at before n ≡ true → (n ≡ node) ⊎ (¬ (n ≡ node)) → MayFollow G longer n
@@ -82,8 +78,12 @@ module _ (d : Document) (live : List Bool) (one : IsOneGraph d) (walk : List ℕ
       other e = f.fresh (In-append_right walk (node ∷ []) n (inl e))
 
       by : In f.other walk ⊎ (f.other ≡ node) → mark_at after n ≡ true
-      by (inl i) = (noted n).1 (inl (others n other ∙ (walking.ahead_are n).1 (record { other = f.other; is_taken = i; share = f.share; fresh = λ a. f.fresh (In-append_left walk (node ∷ []) n a) })))
-      by (inr e) = (noted n).1 (inr (shares_near d live one node n (subst (λ x. ShareTriple G x n) e f.share), not_true (mark_at (set walked node true) n) (λ m. f.fresh ((walked_now n).0 m))))
+      by (inl i) = (marked n).1 (inl (others n other ∙ (walking.ahead_are n).1 (record { other = f.other; is_taken = i; share = f.share; fresh = λ a. f.fresh (In-append_left walk (node ∷ []) n a) })))
+      by (inr e) =
+          (marked n).1 (inr (
+            subst (λ ps. IsNear d ps n) (sym places_are) (shares_near d live one node n (subst (λ x. ShareTriple G x n) e f.share)),
+            false_from_ne_true (mark_at (set walked node true) n) (λ m. f.fresh ((walked_now n).0 m)),
+          ))
 
   pub goes_on : IsWalking G longer (set walked node true) after
   goes_on = record { walked_are = walked_now; ahead_are = λ n. (to_follow n, follows_marked n) }
@@ -134,6 +134,11 @@ next_used G start (x ∷ rest) node u w = (let s = w.2.may.share in record { sta
 
 -- ---- the measure: how many nodes were not walked to
 
+abbrev pub count_unmarked : List Bool → ℕ
+count_unmarked [] = 0
+count_unmarked (true ∷ marks) = count_unmarked marks
+count_unmarked (false ∷ marks) = 1 + count_unmarked marks
+
 pub fewer : (walked : List Bool) (node : ℕ) → node < length walked → mark_at walked node ≡ false → count_unmarked (set walked node true) < count_unmarked walked
 fewer [] node l e = absurd (omega arith)
 fewer (true ∷ bs) zero l e = absurd (true≢false e)
@@ -143,39 +148,32 @@ fewer (false ∷ bs) (suc k) l e = (let h = fewer bs k (omega arith) e in omega 
 
 -- ---- at the end no mark is left
 
-pub unmarked : (G : List Statement) (walk : List ℕ) (walked ahead after : List Bool) → IsWalking G walk walked ahead → ((k : ℕ) → mark_at after k ≡ true → (mark_at walked k ≡ true) × (¬ (In k walk)))
-    → IsEmpty after
-unmarked G walk walked ahead after w gone k = not_true (mark_at after k) (λ e. (let p = gone k e in p.1 ((w.walked_are k).0 p.0)))
+pub unmarked : (G : List Statement) (walk : List ℕ) (walked ahead after : List Bool) → IsWalking G walk walked ahead → ((k : ℕ) → In k walk → k < length walked → mark_at after k ≡ false)
+    → ((k : ℕ) → (¬ (In k walk)) → mark_at after k ≡ mark_at walked k) → IsEmpty after
+unmarked G walk walked ahead after w here others k = elim (decide_in k walk) [
+  | inl i ↦ here k i (mark_within walked k ((w.walked_are k).1 i))
+  | inr o ↦ others k o ∙ false_from_ne_true (mark_at walked k) (λ e. o ((w.walked_are k).0 e))
+]
 
 pub none_ahead : (G : List Statement) (start : ℕ) (walk : List ℕ) (walked ahead : List Bool) → IsWalking G walk walked ahead → HasWalked G start walk None → IsEmpty ahead
 none_ahead G start [] walked ahead w h k = cc
-none_ahead G start (x ∷ rest) walked ahead w h k = not_true (mark_at ahead k) (λ e. h.2 k ((w.ahead_are k).0 e))
+none_ahead G start (x ∷ rest) walked ahead w h k = false_from_ne_true (mark_at ahead k) (λ e. h.2 k ((w.ahead_are k).0 e))
 
 -- ---- at the beginning
 
 pub begins : (G : List Statement) (walked ahead : List Bool) → IsEmpty walked → IsEmpty ahead → IsWalking G [] walked ahead
 begins G walked ahead w a = record { walked_are = λ n. (λ e. true≢false (sym e ∙ w n), λ i. absurd i); ahead_are = λ n. (λ e. absurd (true≢false (sym e ∙ a n)), λ m. absurd m.is_taken) }
 
--- ---- the ends that are noted, place by place
-
-take_split : (xs : List ℕ) (n x : ℕ) → In x (take (suc n) xs) → In x (take n xs) ⊎ (x ≡ get_or xs n 0)
-take_split [] n x i = absurd i
-take_split (y ∷ ys) zero x (inl e) = inr e
-take_split (y ∷ ys) zero x (inr i) = absurd i
-take_split (y ∷ ys) (suc n) x (inl e) = inl (inl e)
-take_split (y ∷ ys) (suc n) x (inr i) = elim (take_split ys n x i) [ inl j ↦ inl (inr j) | inr e ↦ inr e ]
-
-pub In-take-split : (xs : List ℕ) (n x : ℕ) → In x (take (n + 1) xs) → In x (take n xs) ⊎ (x ≡ get_or xs n 0)
-In-take-split xs n x i = take_split xs n x (subst (λ m. In x (take m xs)) (add-one n) i)
+-- ---- the ends that are marked as ahead, place by place
 
 module _ (d : Document) (places : List ℕ) (n : ℕ) (l : n < length places) (first at_subject at_object last walked : List Bool) (s o : Option ℕ)
     (s_is : s ≡ node_in (term_at d.terms (quad_at d.quads (get_or places n 0)).s))
     (o_is : o ≡ node_in (term_at d.terms (quad_at d.quads (get_or places n 0)).o)) where
-  pub noted_ends : (k : ℕ) → ((mark_at at_subject k ≡ true) ↔ ((mark_at first k ≡ true) ⊎ (IsNear d (take n places) k × (mark_at walked k ≡ false))))
+  pub marked_ends : (k : ℕ) → ((mark_at at_subject k ≡ true) ↔ ((mark_at first k ≡ true) ⊎ (IsNear d (take n places) k × (mark_at walked k ≡ false))))
       → ((mark_at at_object k ≡ true) ↔ ((mark_at at_subject k ≡ true) ⊎ ((s ≡ Some k) × (mark_at walked k ≡ false))))
       → ((mark_at last k ≡ true) ↔ ((mark_at at_object k ≡ true) ⊎ ((o ≡ Some k) × (mark_at walked k ≡ false))))
       → (mark_at last k ≡ true) ↔ ((mark_at first k ≡ true) ⊎ (IsNear d (take (n + 1) places) k × (mark_at walked k ≡ false)))
-  noted_ends k a b c = (to, from)
+  marked_ends k a b c = (to, from)
     where
       before : (mark_at at_subject k ≡ true) → (mark_at first k ≡ true) ⊎ (IsNear d (take (n + 1) places) k × (mark_at walked k ≡ false))
       before m = elim (a.0 m) [ inl f ↦ inl f | inr p ↦ inr (record { place = p.0.place; there = In-take-less places n p.0.place p.0.there; end = p.0.end }, p.1) ]
@@ -224,19 +222,3 @@ next_of G walk walked ahead (Some y) w some none = next_some G walk walked ahead
 pub ahead_within : (d : Document) (live : List Bool) (walk : List ℕ) (walked ahead : List Bool) → IsOneGraph d → IsWalking (left d live) walk walked ahead → (k : ℕ) → mark_at ahead k ≡ true
     → k < length d.labels
 ahead_within d live walk walked ahead one w k e = (let s = ((w.ahead_are k).0 e).share in used_within d live one k (record { statement = s.triple; there = s.there; mentioned = s.mentions_second }))
-
--- ---- marks that are taken away
-
-pub unmark_next : (first now : List Bool) (walk : List ℕ) (n : ℕ) → get_or walk n 0 < length now → ((k : ℕ) → mark_at now k ≡ true → (mark_at first k ≡ true) × (¬ (In k (take n walk)))) → (k : ℕ)
-    → mark_at (set now (get_or walk n 0) false) k ≡ true → (mark_at first k ≡ true) × (¬ (In k (take (n + 1) walk)))
-unmark_next first now walk n l h k e = by (same_or_other k (get_or walk n 0))
-  where
-    by : (k ≡ get_or walk n 0) ⊎ (¬ (k ≡ get_or walk n 0)) → (mark_at first k ≡ true) × (¬ (In k (take (n + 1) walk)))
-    by (inl f) = absurd (true≢false (sym e ∙ (ap (mark_at (set now (get_or walk n 0) false)) f ∙ get_or-set_same now (get_or walk n 0) false false l)))
-    by (inr o) =
-        let r = h k (sym (get_or-set_other now (get_or walk n 0) k false false o) ∙ e) in
-        (r.0, λ i. elim (In-take-split walk n k i) [ inl j ↦ r.1 j | inr f ↦ o f ])
-
-pub unmark_whole : (first now : List Bool) (walk : List ℕ) (n : ℕ) → length walk ≤ n → ((k : ℕ) → mark_at now k ≡ true → (mark_at first k ≡ true) × (¬ (In k (take n walk)))) → (k : ℕ)
-    → mark_at now k ≡ true → (mark_at first k ≡ true) × (¬ (In k walk))
-unmark_whole first now walk n l h k e = subst (λ w. (mark_at first k ≡ true) × (¬ (In k w))) (take_all n walk l) (h k e)

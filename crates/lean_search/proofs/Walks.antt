@@ -1,15 +1,21 @@
 -- What a walk from a node holds: each node of its component, once.
-use Rattle.std.proofs.Common.{◌≡◌, ℕ, ◌⊎◌, ◌↔◌, List, [], ◌∷◌, ◌++◌, refl, sym, ap, subst, inl, inr, append_assoc}
-use Rattle.rdf_terms.specs.Lists.{In, AreDistinct}
-use Rattle.rdf_terms.specs.Terms.{Statement}
-use Rattle.rdf_terms.specs.Dataset.{IsUsed}
+use Rattle.std.proofs.Common.{◌≡◌, ℕ, ◌⊎◌, ◌↔◌, List, [], ◌∷◌, ◌++◌, refl, sym, subst, inl, inr, append_assoc, Option, Some}
+use Rattle.rdf_terms.proofs.Common.{In, AreDistinct, Statement, IsUsed, AreDistinct-push, In-append, decide_in}
 use Rattle.rdf_terms.specs.declared.term.Term.{Term}
-use Rattle.rdf_terms.proofs.Membership.{AreDistinct-push, In-append, In-append_right}
-use Rattle.graph_model.specs.Graphs.{IsReached}
-use Rattle.graph_model.specs.Components.{Follows, MayFollow, WalksOn, IsClosed, IsMapOf, IsTight, Touches, IsTripleOf}
-use Rattle.graph_model.proofs.Closed.{decide_in, ended}
+use Rattle.graph_model.specs.Components.{Follows, MayFollow, WalksOn, IsClosed, IsMapOf, IsTight}
+use Rattle.graph_model.proofs.Closed.{ended}
 use Rattle.std.proofs.lemmas.List.{append-nil}
-use Rattle.lean_search.specs.Walk.{IsWalkFrom, WalksTo}
+use Rattle.lean_search.specs.Walk.{IsWalkFrom, IsNextOf}
+
+-- each node behind the first is the least that may follow those before it
+abbrev pub WalksTo : List Statement → List ℕ → List ℕ → Type 0
+WalksTo G taken [] = Unit {0}
+WalksTo G taken (y ∷ rest) = Follows G taken y × WalksTo G (taken ++ y ∷ []) rest
+
+-- the walk has begun at the node, or is to begin there
+abbrev pub HasWalked : List Statement → ℕ → List ℕ → Option ℕ → Type 0
+HasWalked G start [] next = next ≡ Some start
+HasWalked G start (x ∷ rest) next = (x ≡ start) × WalksTo G (start ∷ []) rest × IsNextOf G (x ∷ rest) next
 
 module _ (G : List Statement) where
   -- ---- from a walk under way to a whole one

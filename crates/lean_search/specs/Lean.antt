@@ -1,9 +1,6 @@
 -- What `lean` answers.
-use Rattle.std.specs.Prelude.{◌≡◌, ℕ, ◌<◌, List, map, length, Option, Some, None, IsSome, slice_get, slice_index, All}
-use Rattle.rdf_terms.specs.Lists.{In}
-use Rattle.rdf_terms.specs.Terms.{Statement}
-use Rattle.rdf_terms.specs.Dataset.{IsUsed}
-use Rattle.rdf_terms.specs.Document.{Document, statement, statements, term_at}
+use Rattle.std.specs.Prelude.{◌≡◌, ℕ, ◌<◌, List, map, length, Some, None, IsSome, slice_get, slice_index, All}
+use Rattle.rdf_terms.specs.Vocabulary.{In, Statement, IsUsed, Document, statement, statements, term_at}
 use Rattle.rdf_terms.specs.declared.term.Term.{Term}
 use Rattle.rdf_terms.specs.declared.term.Quad.{Quad}
 use Rattle.dataset_index.specs.QuadOrder.{Ascend}
@@ -21,7 +18,8 @@ map_by terms numbers n = term_at terms (slice_index numbers n)
 abbrev pub triples_of : Document → List Quad → List Statement
 triples_of d quads = map (statement d.terms) quads
 
--- the quads are lean, and the map is an endomorphism of the graph with them as its image; each node of them lies in a set that was searched within the limit
+-- the quads are lean, and the map is an endomorphism of the graph with them as its image; each node of them lies in a
+-- set that was searched within the limit
 pub record IsLeanForm (d : Document) (limit : ℕ) (form : LeanForm) : Type 0 where
   pub graph : IsGraph (statements d)
   pub count : length form.map ≡ length d.labels

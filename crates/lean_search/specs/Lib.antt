@@ -5,5 +5,5 @@ pub mod Walk
 pub mod Steps
 pub mod Places
 pub mod Searched
-pub mod Room
+pub mod Workspace
 pub mod Asked

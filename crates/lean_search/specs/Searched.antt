@@ -1,9 +1,6 @@
 -- What the search of one component leaves.
-use Rattle.std.specs.Prelude.{◌≡◌, ℕ, ◌+◌, ◌<◌, ◌↔◌, Bool, true, false, List, [], ◌∷◌, ◌++◌, map, length, All}
-use Rattle.rdf_terms.specs.Lists.{In}
-use Rattle.rdf_terms.specs.Terms.{Statement}
-use Rattle.rdf_terms.specs.Dataset.{IsUsed}
-use Rattle.rdf_terms.specs.Document.{Document, statements}
+use Rattle.std.specs.Prelude.{◌≡◌, ℕ, ◌+◌, ◌<◌, ◌↔◌, Bool, true, false, List, [], ◌∷◌, ◌++◌, length, All}
+use Rattle.rdf_terms.specs.Vocabulary.{In, Statement, IsUsed, Document, statements}
 use Rattle.rdf_terms.specs.declared.term.Term.{Term}
 use Rattle.graph_model.specs.Graphs.{IsImage, IsLean}
 use Rattle.graph_model.specs.Components.{IsMapOf, IsTight}
@@ -13,7 +10,7 @@ use Rattle.map_search.specs.Marks.{mark_at}
 use Rattle.map_search.specs.Numbers.{Agrees}
 use Rattle.map_search.specs.Pattern.{map_of}
 use Rattle.map_search.specs.declared.search.Ending.{Ending}
-use Rattle.map_search.specs.declared.search.Ending.TheVariants.{Found, Nothing, PastLimit as Stopped}
+use Rattle.map_search.specs.declared.search.Ending.TheVariants.{Found}
 use Rattle.lean_search.specs.Image.{left, LeavesReached}
 use Rattle.lean_search.specs.Steps.{IsStep, AreSteps, map_by_steps}
 use Rattle.lean_search.specs.Outer.{IsSearching, Marks}
@@ -48,11 +45,14 @@ pub record AreFewInOrder (G : List Statement) (limit : ℕ) (nodes : List ℕ) :
   pub few : ¬ (HasMoreBeginnings G order limit)
 
 abbrev pub IsSearchedAs : Document → List ℕ → ℕ → State → State → Searched → Type 0
-IsSearchedAs d walk limit old new Tight = (new ≡ old) × IsTight (left d old.live) walk × AreFewInOrder (left d old.live) limit walk
+IsSearchedAs d walk limit old new Tight =
+    (new ≡ old) × IsTight (left d old.live) walk × AreFewInOrder (left d old.live) limit walk
 IsSearchedAs d walk limit old new PastLimit = (new ≡ old) × HasMoreMaps (left d old.live) (left d old.live) walk limit
-IsSearchedAs d walk limit old new Shrunk = (s : Step) × (new.steps ≡ old.steps ++ s ∷ []) × IsShrinking d walk old.live new.live s
+IsSearchedAs d walk limit old new Shrunk =
+    (s : Step) × (new.steps ≡ old.steps ++ s ∷ []) × IsShrinking d walk old.live new.live s
 
--- the steps lead from the graph of the document to what is left of it, and the search of that has come to the node `from`
+-- the steps lead from the graph of the document to what is left of it, and the search of that has come to the node
+-- `from`
 pub record IsUnderway (d : Document) (limit : ℕ) (s : State) (settled : ℕ → Bool) (from : ℕ) : Type 0 where
   pub μ : ℕ → Term
   pub searching : IsSearching limit (statements d) μ (left d s.live) settled from
@@ -62,8 +62,7 @@ pub record IsUnderway (d : Document) (limit : ℕ) (s : State) (settled : ℕ �
 -- images that are found are as many as the terms, and numbers of terms
 abbrev pub AreImages : ℕ → List ℕ → Ending → Type 0
 AreImages terms own (Found images) = (length images.items ≡ length own) × All (λ t. t < terms) images.items
-AreImages terms own Nothing = Unit {0}
-AreImages terms own Stopped = Unit {0}
+AreImages terms own ending = Unit {0}
 
 -- the last step takes these terms to these images, and what it reaches is left
 pub record TakesStep (d : Document) (own images : List ℕ) (old new : State) : Type 0 where
@@ -76,8 +75,7 @@ pub record TakesStep (d : Document) (own images : List ℕ) (old new : State) : 
 -- the nodes of a tight component are marked, and else nothing changes
 abbrev pub IsMarkedAs : List ℕ → List Bool → List Bool → Searched → Type 0
 IsMarkedAs nodes before after Tight = Marks nodes (mark_at before) (mark_at after)
-IsMarkedAs nodes before after Shrunk = after ≡ before
-IsMarkedAs nodes before after PastLimit = after ≡ before
+IsMarkedAs nodes before after searched = after ≡ before
 
 -- after one search the node is passed, or less is left and the search goes on, or it ends
 pub record GoesOn (d : Document) (limit start : ℕ) (old new : State) (settled : List Bool) : Type 0 where

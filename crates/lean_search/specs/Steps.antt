@@ -1,7 +1,6 @@
 -- The maps that were found, one after the other.
 use Rattle.std.specs.Prelude.{◌≡◌, ℕ, ◌<◌, List, [], ◌∷◌, length, slice_set, slice_get, slice_index, Some, All}
-use Rattle.rdf_terms.specs.Lists.{AreDistinct}
-use Rattle.rdf_terms.specs.Document.{Document}
+use Rattle.rdf_terms.specs.Vocabulary.{AreDistinct, Document}
 use Rattle.rdf_terms.specs.declared.term.Term.TheVariants.{Blank}
 use Rattle.map_search.specs.Pattern.{map_of}
 use Rattle.lean_search.specs.declared.steps.Step.{Step}

@@ -6,17 +6,17 @@ ghost use Rattle.map_search.specs.Numbers.{AreNumbers, MeansByTerms};
 ghost use Rattle.lean_search.specs.Image.{IsOneGraph, IsIndexOf, AreTermsOf, left, quads_left};
 ghost use Rattle.lean_search.specs.Places.{ArePlaces};
 ghost use Rattle.lean_search.specs.Walk.{IsUnmarked, IsWalk, IsWalkFrom};
-ghost use Rattle.lean_search.specs.Room.{IsRoom, state_of};
+ghost use Rattle.lean_search.specs.Workspace.{IsWorkspace, state_of};
 ghost use Rattle.lean_search.specs.Searched.{IsSearchedAs, AreImages, TakesStep};
 
 use crate::left::node_of;
 use crate::missing::Missing;
-use crate::places::{clear_places, note_places};
-use crate::room::Room;
+use crate::places::{clear_places, set_places};
 use crate::rows::rows_of;
 use crate::shrink::shrink;
 use crate::steps::Step;
 use crate::walk::walk_from;
+use crate::workspace::Workspace;
 use dataset_index::Dataset;
 use map_search::{Ending, Index, find_map};
 use rdf_terms::{MOST_NUMBERS, NoMemory, Quad};
@@ -77,36 +77,36 @@ fn find(
 fn take_step(
     alloc: Global,
     graph: &Dataset,
-    room: &mut Room,
+    workspace: &mut Workspace,
     walk: &[u32],
     own: Vec<u32>,
     images: Vec<u32>,
 ) -> Result<(), NoMemory>
     requires one { IsOneGraph graph.now }
-    requires index { IsIndexOf graph.now room.old.index }
-    requires walked { IsUnmarked (length graph.now.labels) room.old.walked.items }
-    requires ahead { IsUnmarked (length graph.now.labels) room.old.ahead }
+    requires index { IsIndexOf graph.now workspace.old.index }
+    requires walked { IsUnmarked (length graph.now.labels) workspace.old.walked.items }
+    requires ahead { IsUnmarked (length graph.now.labels) workspace.old.ahead }
     requires within { All (λ n. n < length graph.now.labels) walk.now }
     requires terms { AreTermsOf graph.now walk.now own.items }
     requires in_range { All (λ t. t < length graph.now.terms) own.items }
     requires once { AreDistinct own.items }
     requires few { length own.items < MOST_NUMBERS }
-    requires places { ArePlaces (length graph.now.terms) room.old.place_of.items own.items }
+    requires places { ArePlaces (length graph.now.terms) workspace.old.place_of.items own.items }
     requires count { length images.items ≡ length own.items }
-    ensures room { OnOk result (IsRoom graph.now room.new) }
-    ensures step { OnOk result (TakesStep graph.now own.items images.items (state_of room.old) (state_of room.new)) }
+    ensures workspace { OnOk result (IsWorkspace graph.now workspace.new) }
+    ensures step { OnOk result (TakesStep graph.now own.items images.items (state_of workspace.old) (state_of workspace.new)) }
 {
     shrink(
         alloc,
         graph,
-        &mut room.index,
+        &mut workspace.index,
         walk,
-        room.place_of.as_slice(),
+        workspace.place_of.as_slice(),
         own.as_slice(),
         images.as_slice(),
     )?;
-    clear_places(room.place_of.as_mut_slice(), own.as_slice());
-    room.steps.push(Step { terms: own, images })?;
+    clear_places(workspace.place_of.as_mut_slice(), own.as_slice());
+    workspace.steps.push(Step { terms: own, images })?;
     Ok(())
 }
 
@@ -115,44 +115,44 @@ fn take_step(
 fn search_terms(
     alloc: Global,
     graph: &Dataset,
-    room: &mut Room,
+    workspace: &mut Workspace,
     walk: &[u32],
     own: Vec<u32>,
     limit: u64,
 ) -> Result<Searched, NoMemory>
     requires one { IsOneGraph graph.now }
-    requires room { IsRoom graph.now room.old }
+    requires workspace { IsWorkspace graph.now workspace.old }
     requires some { 0 < length walk.now }
     requires within { All (λ n. n < length graph.now.labels) walk.now }
     requires terms { AreTermsOf graph.now walk.now own.items }
     requires in_range { All (λ t. t < length graph.now.terms) own.items }
     requires once { AreDistinct own.items }
     requires few { length own.items < MOST_NUMBERS }
-    requires numbers { AreNumbers graph.now.terms (quads_left graph.now room.old.index.live) own.items walk.now }
-    ensures room { OnOk result (IsRoom graph.now room.new) }
-    ensures searched { IfOk result (IsSearchedAs graph.now walk.now limit (state_of room.old) (state_of room.new)) }
+    requires numbers { AreNumbers graph.now.terms (quads_left graph.now workspace.old.index.live) own.items walk.now }
+    ensures workspace { OnOk result (IsWorkspace graph.now workspace.new) }
+    ensures searched { IfOk result (IsSearchedAs graph.now walk.now limit (state_of workspace.old) (state_of workspace.new)) }
 {
-    note_places(room.place_of.as_mut_slice(), own.as_slice());
+    set_places(workspace.place_of.as_mut_slice(), own.as_slice());
     let ending = find(
         alloc,
         graph,
-        &room.index,
-        room.place_of.as_slice(),
+        &workspace.index,
+        workspace.place_of.as_slice(),
         walk,
         own.as_slice(),
         limit,
     )?;
     match ending {
         Ending::PastLimit => {
-            clear_places(room.place_of.as_mut_slice(), own.as_slice());
+            clear_places(workspace.place_of.as_mut_slice(), own.as_slice());
             Ok(Searched::PastLimit)
         }
         Ending::Nothing => {
-            clear_places(room.place_of.as_mut_slice(), own.as_slice());
+            clear_places(workspace.place_of.as_mut_slice(), own.as_slice());
             Ok(Searched::Tight)
         }
         Ending::Found(images) => {
-            take_step(alloc, graph, room, walk, own, images)?;
+            take_step(alloc, graph, workspace, walk, own, images)?;
             Ok(Searched::Shrunk)
         }
     }
@@ -162,18 +162,18 @@ fn search_terms(
 fn search_walk(
     alloc: Global,
     graph: &Dataset,
-    room: &mut Room,
+    workspace: &mut Workspace,
     walk: &[u32],
     limit: u64,
 ) -> Result<Searched, NoMemory>
     requires one { IsOneGraph graph.now }
-    requires room { IsRoom graph.now room.old }
-    requires walk { IsWalk (left graph.now room.old.index.live) walk.now }
-    ensures room { OnOk result (IsRoom graph.now room.new) }
-    ensures searched { IfOk result (IsSearchedAs graph.now walk.now limit (state_of room.old) (state_of room.new)) }
+    requires workspace { IsWorkspace graph.now workspace.old }
+    requires walk { IsWalk (left graph.now workspace.old.index.live) walk.now }
+    ensures workspace { OnOk result (IsWorkspace graph.now workspace.new) }
+    ensures searched { IfOk result (IsSearchedAs graph.now walk.now limit (state_of workspace.old) (state_of workspace.new)) }
 {
     let own = terms_of(alloc, graph, walk)?;
-    search_terms(alloc, graph, room, walk, own, limit)
+    search_terms(alloc, graph, workspace, walk, own, limit)
 }
 
 // How many candidates the triple leaves to the image of the term: by the triple's other end where
@@ -233,20 +233,20 @@ fn most_bound(graph: &Dataset, index: &Index, walk: &[u32]) -> u32
 pub(crate) fn search_component(
     alloc: Global,
     graph: &Dataset,
-    room: &mut Room,
+    workspace: &mut Workspace,
     walk: &[u32],
     limit: u64,
 ) -> Result<Searched, NoMemory>
     requires one { IsOneGraph graph.now }
-    requires room { IsRoom graph.now room.old }
-    requires walk { IsWalk (left graph.now room.old.index.live) walk.now }
-    ensures room { OnOk result (IsRoom graph.now room.new) }
-    ensures searched { IfOk result (IsSearchedAs graph.now walk.now limit (state_of room.old) (state_of room.new)) }
+    requires workspace { IsWorkspace graph.now workspace.old }
+    requires walk { IsWalk (left graph.now workspace.old.index.live) walk.now }
+    ensures workspace { OnOk result (IsWorkspace graph.now workspace.new) }
+    ensures searched { IfOk result (IsSearchedAs graph.now walk.now limit (state_of workspace.old) (state_of workspace.new)) }
 {
-    let start = most_bound(graph, &room.index, walk);
-    let quick = walk_in(alloc, graph, room, start)?;
-    match search_walk(alloc, graph, room, quick.as_slice(), limit)? {
-        Searched::PastLimit => search_walk(alloc, graph, room, walk, limit),
+    let start = most_bound(graph, &workspace.index, walk);
+    let quick = walk_in(alloc, graph, workspace, start)?;
+    match search_walk(alloc, graph, workspace, quick.as_slice(), limit)? {
+        Searched::PastLimit => search_walk(alloc, graph, workspace, walk, limit),
         searched => Ok(searched),
     }
 }
@@ -255,22 +255,22 @@ pub(crate) fn search_component(
 pub(crate) fn walk_in(
     alloc: Global,
     graph: &Dataset,
-    room: &mut Room,
+    workspace: &mut Workspace,
     start: u32,
 ) -> Result<Vec<u32>, NoMemory>
     requires one { IsOneGraph graph.now }
-    requires room { IsRoom graph.now room.old }
-    requires used { IsUsed (left graph.now room.old.index.live) start }
-    ensures walk { IfOk result (λ walk. IsWalkFrom (left graph.now room.old.index.live) start walk.items) }
-    ensures room { OnOk result (IsRoom graph.now room.new) }
-    ensures state { state_of room.new ≡ state_of room.old }
+    requires workspace { IsWorkspace graph.now workspace.old }
+    requires used { IsUsed (left graph.now workspace.old.index.live) start }
+    ensures walk { IfOk result (λ walk. IsWalkFrom (left graph.now workspace.old.index.live) start walk.items) }
+    ensures workspace { OnOk result (IsWorkspace graph.now workspace.new) }
+    ensures state { state_of workspace.new ≡ state_of workspace.old }
 {
     walk_from(
         alloc,
         graph,
-        &room.index,
-        room.walked.as_mut_slice(),
-        &mut room.ahead,
+        &workspace.index,
+        workspace.walked.as_mut_slice(),
+        &mut workspace.ahead,
         start,
     )
 }

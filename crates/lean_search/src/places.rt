@@ -8,8 +8,8 @@ use rdf_terms::MOST_NUMBERS;
 // What stands for a term without a place.
 pub(crate) const NONE: u32 = u32::MAX;
 
-// Notes the place of each of the terms.
-pub(crate) fn note_places(place_of: &mut [u32], terms: &[u32])
+// Gives each of the terms its place.
+pub(crate) fn set_places(place_of: &mut [u32], terms: &[u32])
     requires none { AreNoPlaces (length place_of.old) place_of.old }
     requires once { AreDistinct terms.now }
     requires within { All (λ t. t < length place_of.old) terms.now }

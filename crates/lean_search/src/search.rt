@@ -5,8 +5,7 @@ ghost use Rattle.map_search.specs.Index.{kept};
 ghost use Rattle.map_search.specs.Marks.{mark_at};
 ghost use Rattle.lean_search.specs.Image.{IsOneGraph, left, quads_left};
 ghost use Rattle.lean_search.specs.Lean.{IsFirstNamed, IsLeanForm, IsLeanStop};
-ghost use Rattle.lean_search.specs.Room.{IsRoom, state_of};
-ghost use Rattle.lean_search.specs.Outer.{Marks};
+ghost use Rattle.lean_search.specs.Workspace.{IsWorkspace, state_of};
 ghost use Rattle.lean_search.specs.Searched.{IsMarkedAs, IsSearchedTo, IsSettledTo, IsTurned, IsUnderway};
 ghost use Rattle.lean_search.specs.Steps.{AreSteps, IsMapBy, IsNodeMapped};
 ghost use Rattle.dataset_index.specs.QuadOrder.{Ascend};
@@ -14,8 +13,9 @@ ghost use Rattle.dataset_index.specs.QuadOrder.{Ascend};
 use crate::component::{Searched, search_component, walk_in};
 use crate::form::{LeanForm, LeanStop};
 use crate::left::{is_left, quad_in};
-use crate::room::{Room, make_room, no_marks};
+use crate::marking::mark_all;
 use crate::steps::{Step, composed};
+use crate::workspace::{Workspace, new_workspace, no_marks};
 use dataset_index::Dataset;
 use map_search::Index;
 use rdf_terms::{MOST_QUADS, NoMemory, NodeList, Quad, QuadList};
@@ -44,22 +44,13 @@ fn named_quad(graph: &Dataset) -> Option<Quad>
     first_named(graph.quads())
 }
 
-// Marks the nodes as settled.
-fn mark_all(settled: &mut [bool], nodes: &[u32])
-    requires { All (λ n. n < length settled.old) nodes.now }
-    ensures { Marks nodes.now (mark_at settled.old) (mark_at settled.new) }
-{
-    for node in nodes {
-        settled[*node as usize] = true;
-    }
-}
-
+// Marks the nodes of a tight component as settled.
 fn mark_tight(settled: &mut [bool], nodes: &[u32], searched: Searched)
     requires { All (λ n. n < length settled.old) nodes.now }
     ensures { IsMarkedAs nodes.now settled.old settled.new searched }
 {
     match searched {
-        Searched::Tight => mark_all(settled, nodes),
+        Searched::Tight => mark_all(settled, nodes, true),
         Searched::Shrunk | Searched::PastLimit => {}
     }
 }
@@ -68,22 +59,22 @@ fn mark_tight(settled: &mut [bool], nodes: &[u32], searched: Searched)
 fn turn(
     alloc: Global,
     graph: &Dataset,
-    room: &mut Room,
+    workspace: &mut Workspace,
     settled: &mut [bool],
     start: u32,
     limit: u64,
 ) -> Result<Searched, NoMemory>
     requires one { IsOneGraph graph.now }
-    requires room { IsRoom graph.now room.old }
-    requires used { IsUsed (left graph.now room.old.index.live) start }
+    requires workspace { IsWorkspace graph.now workspace.old }
+    requires used { IsUsed (left graph.now workspace.old.index.live) start }
     requires marks { length settled.old ≡ length graph.now.labels }
     requires unsettled { mark_at settled.old start ≡ false }
-    requires underway { IsUnderway graph.now limit (state_of room.old) (mark_at settled.old) start }
-    ensures room { OnOk result (IsRoom graph.now room.new) }
-    ensures turned { IfOk result (IsTurned graph.now limit start (state_of room.old) (state_of room.new) settled.new) }
+    requires underway { IsUnderway graph.now limit (state_of workspace.old) (mark_at settled.old) start }
+    ensures workspace { OnOk result (IsWorkspace graph.now workspace.new) }
+    ensures turned { IfOk result (IsTurned graph.now limit start (state_of workspace.old) (state_of workspace.new) settled.new) }
 {
-    let walk = walk_in(alloc, graph, room, start)?;
-    let searched = search_component(alloc, graph, room, walk.as_slice(), limit)?;
+    let walk = walk_in(alloc, graph, workspace, start)?;
+    let searched = search_component(alloc, graph, workspace, walk.as_slice(), limit)?;
     mark_tight(settled, walk.as_slice(), searched);
     Ok(searched)
 }
@@ -93,25 +84,25 @@ fn turn(
 fn settle(
     alloc: Global,
     graph: &Dataset,
-    room: &mut Room,
+    workspace: &mut Workspace,
     settled: &mut [bool],
     start: u32,
     limit: u64,
 ) -> Result<bool, NoMemory>
     requires one { IsOneGraph graph.now }
-    requires room { IsRoom graph.now room.old }
+    requires workspace { IsWorkspace graph.now workspace.old }
     requires within { start < length graph.now.labels }
     requires marks { length settled.old ≡ length graph.now.labels }
     requires unsettled { mark_at settled.old start ≡ false }
-    requires underway { IsUnderway graph.now limit (state_of room.old) (mark_at settled.old) start }
-    ensures room { OnOk result (IsRoom graph.now room.new) }
-    ensures settled { IfOk result (IsSettledTo graph.now limit (state_of room.new) (mark_at settled.new) (start + 1)) }
+    requires underway { IsUnderway graph.now limit (state_of workspace.old) (mark_at settled.old) start }
+    ensures workspace { OnOk result (IsWorkspace graph.now workspace.new) }
+    ensures settled { IfOk result (IsSettledTo graph.now limit (state_of workspace.new) (mark_at settled.new) (start + 1)) }
 {
     'turns: loop {
-        if !is_left(graph, &room.index, start) {
+        if !is_left(graph, &workspace.index, start) {
             return Ok(true);
         }
-        let searched = turn(alloc, graph, room, settled, start, limit)?;
+        let searched = turn(alloc, graph, workspace, settled, start, limit)?;
         match searched {
             Searched::PastLimit => return Ok(false),
             Searched::Tight => return Ok(true),
@@ -124,42 +115,42 @@ fn settle(
 fn pass(
     alloc: Global,
     graph: &Dataset,
-    room: &mut Room,
+    workspace: &mut Workspace,
     settled: &mut [bool],
     start: u32,
     limit: u64,
 ) -> Result<bool, NoMemory>
     requires one { IsOneGraph graph.now }
-    requires room { IsRoom graph.now room.old }
+    requires workspace { IsWorkspace graph.now workspace.old }
     requires within { start < length graph.now.labels }
     requires marks { length settled.old ≡ length graph.now.labels }
-    requires underway { IsUnderway graph.now limit (state_of room.old) (mark_at settled.old) start }
-    ensures room { OnOk result (IsRoom graph.now room.new) }
-    ensures settled { IfOk result (IsSettledTo graph.now limit (state_of room.new) (mark_at settled.new) (start + 1)) }
+    requires underway { IsUnderway graph.now limit (state_of workspace.old) (mark_at settled.old) start }
+    ensures workspace { OnOk result (IsWorkspace graph.now workspace.new) }
+    ensures settled { IfOk result (IsSettledTo graph.now limit (state_of workspace.new) (mark_at settled.new) (start + 1)) }
 {
     if settled[start as usize] {
         Ok(true)
     } else {
-        settle(alloc, graph, room, settled, start, limit)
+        settle(alloc, graph, workspace, settled, start, limit)
     }
 }
 
 fn search_from(
     alloc: Global,
     graph: &Dataset,
-    room: &mut Room,
+    workspace: &mut Workspace,
     settled: &mut [bool],
     limit: u64,
 ) -> Result<bool, NoMemory>
     requires one { IsOneGraph graph.now }
-    requires room { IsRoom graph.now room.old }
+    requires workspace { IsWorkspace graph.now workspace.old }
     requires marks { length settled.old ≡ length graph.now.labels }
-    requires underway { IsUnderway graph.now limit (state_of room.old) (mark_at settled.old) 0 }
-    ensures room { OnOk result (IsRoom graph.now room.new) }
-    ensures searched { IfOk result (IsSearchedTo graph.now limit (state_of room.new)) }
+    requires underway { IsUnderway graph.now limit (state_of workspace.old) (mark_at settled.old) 0 }
+    ensures workspace { OnOk result (IsWorkspace graph.now workspace.new) }
+    ensures searched { IfOk result (IsSearchedTo graph.now limit (state_of workspace.new)) }
 {
     for start in 0..graph.node_count() {
-        let is_settled = pass(alloc, graph, room, settled, start, limit)?;
+        let is_settled = pass(alloc, graph, workspace, settled, start, limit)?;
         if !is_settled {
             return Ok(false);
         }
@@ -169,16 +160,21 @@ fn search_from(
 
 // Searches component after component. A node that is not settled when it comes is the least of its
 // component, since all nodes before it are settled or gone.
-fn search(alloc: Global, graph: &Dataset, room: &mut Room, limit: u64) -> Result<bool, NoMemory>
+fn search(
+    alloc: Global,
+    graph: &Dataset,
+    workspace: &mut Workspace,
+    limit: u64,
+) -> Result<bool, NoMemory>
     requires one { IsOneGraph graph.now }
-    requires room { IsRoom graph.now room.old }
-    requires all { (k : ℕ) → k < length graph.now.quads → mark_at room.old.index.live k ≡ true }
-    requires steps { room.old.steps.items ≡ [] }
-    ensures room { OnOk result (IsRoom graph.now room.new) }
-    ensures searched { IfOk result (IsSearchedTo graph.now limit (state_of room.new)) }
+    requires workspace { IsWorkspace graph.now workspace.old }
+    requires all { (k : ℕ) → k < length graph.now.quads → mark_at workspace.old.index.live k ≡ true }
+    requires steps { workspace.old.steps.items ≡ [] }
+    ensures workspace { OnOk result (IsWorkspace graph.now workspace.new) }
+    ensures searched { IfOk result (IsSearchedTo graph.now limit (state_of workspace.new)) }
 {
     let mut settled = no_marks(alloc, graph.node_count())?;
-    search_from(alloc, graph, room, settled.as_mut_slice(), limit)
+    search_from(alloc, graph, workspace, settled.as_mut_slice(), limit)
 }
 
 fn push_if(quads: &mut Vec<Quad>, quad: Quad, there: bool) -> Result<(), NoMemory>
@@ -259,11 +255,11 @@ fn lean_of(alloc: Global, graph: &Dataset, limit: u64) -> Result<LeanForm, LeanS
     ensures form { IfOk result (IsLeanForm graph.now limit) }
     ensures stop { IfErr result (IsLeanStop graph.now limit) }
 {
-    let mut room = make_room(alloc, graph)?;
-    let is_lean = search(alloc, graph, &mut room, limit)?;
-    let quads = triples_left(alloc, graph, &room.index)?;
+    let mut workspace = new_workspace(alloc, graph)?;
+    let is_lean = search(alloc, graph, &mut workspace, limit)?;
+    let quads = triples_left(alloc, graph, &workspace.index)?;
     if is_lean {
-        let form = form_of(alloc, graph, room.steps.as_slice(), quads)?;
+        let form = form_of(alloc, graph, workspace.steps.as_slice(), quads)?;
         Ok(form)
     } else {
         Err(LeanStop::SearchLimit { image: quads })

@@ -1,19 +1,19 @@
 //! The nodes that hang together with one, in walk order.
 ghost use Rattle.std.specs.Prelude.{◌≡◌, ◌<◌, ◌≤◌, ◌^◌, ◌⊎◌, ◌↔◌, ℕ, true, false, length, slice_set, [], ◌∷◌, ◌++◌, Some, IfOk, OnOk, IfSome, IfNone, All};
-ghost use Rattle.rdf_terms.specs.Lists.{In};
 ghost use Rattle.rdf_terms.specs.Dataset.{IsUsed};
 ghost use Rattle.map_search.specs.Marks.{mark_at, IsNextMark, NoMark};
 ghost use Rattle.lean_search.specs.Image.{IsOneGraph, IsIndexOf, left};
 ghost use Rattle.lean_search.specs.Walk.{IsNear, IsUnmarked, IsWalkFrom, IsWalking, IsNextOf};
 
 use crate::left::{node_of, places_left};
+use crate::marking::mark_all;
 use dataset_index::Dataset;
 use map_search::{Index, Marks};
 use rdf_terms::NoMemory;
 use std::alloc::Global;
 
 // Marks the node as ahead, if there is one and it was not walked to.
-fn note(ahead: &mut Marks, walked: &[bool], node: Option<u32>)
+fn mark_node(ahead: &mut Marks, walked: &[bool], node: Option<u32>)
     requires walked { IfSome node (λ n. n < length walked.now) }
     requires ahead { IfSome node (λ n. n < length ahead.old) }
     ensures length { length ahead.new ≡ length ahead.old }
@@ -27,7 +27,7 @@ fn note(ahead: &mut Marks, walked: &[bool], node: Option<u32>)
 }
 
 // Marks the ends of the triples at these places as ahead, where they are nodes that were not walked to.
-fn note_ends(ahead: &mut Marks, walked: &[bool], graph: &Dataset, index: &Index, places: &[u32])
+fn mark_ends(ahead: &mut Marks, walked: &[bool], graph: &Dataset, index: &Index, places: &[u32])
     requires one { IsOneGraph graph.now }
     requires index { IsIndexOf graph.now index.now }
     requires within { All (λ k. k < length graph.now.quads) places.now }
@@ -38,8 +38,8 @@ fn note_ends(ahead: &mut Marks, walked: &[bool], graph: &Dataset, index: &Index,
 {
     for place in places {
         let triple = index.quad(*place);
-        note(ahead, walked, node_of(graph, triple.s));
-        note(ahead, walked, node_of(graph, triple.o));
+        mark_node(ahead, walked, node_of(graph, triple.s));
+        mark_node(ahead, walked, node_of(graph, triple.o));
     }
 }
 
@@ -81,18 +81,8 @@ fn walk_to(
     walked[node as usize] = true;
     ahead.set(node as usize, false);
     let places = places_left(alloc, graph, index, node)?;
-    note_ends(ahead, walked, graph, index, places.as_slice());
+    mark_ends(ahead, walked, graph, index, places.as_slice());
     Ok(next_ahead(ahead))
-}
-
-// Takes the marks of these nodes away.
-fn unmark(walked: &mut [bool], walk: &[u32])
-    requires { All (λ n. n < length walked.old) walk.now }
-    ensures { (k : ℕ) → mark_at walked.new k ≡ true → (mark_at walked.old k ≡ true) × (¬ (In k walk.now)) }
-{
-    for node in walk {
-        walked[*node as usize] = false;
-    }
 }
 
 // The nodes that hang together with this one through triples that are left: this one first, then
@@ -119,6 +109,6 @@ pub(crate) fn walk_from(
     while let Some(node) = next {
         next = walk_to(alloc, graph, index, &mut walk, walked, ahead, node)?;
     }
-    unmark(walked, walk.as_slice());
+    mark_all(walked, walk.as_slice(), false);
     Ok(walk)
 }

@@ -1,6 +1,5 @@
 use Rattle.std.proofs.Common.{sym, subst}
-use Rattle.rdf_terms.specs.Lists.{In}
-use Rattle.rdf_terms.proofs.MadeLists.{In-get_or}
+use Rattle.rdf_terms.proofs.Common.{In, In-get_or}
 use Rattle.lean_search.proofs.component.most_bound.Goals as goal
 use Rattle.lean_search.proofs.component.most_bound.Goals.{then-candidates-fewest, else-candidates-fewest}
 

@@ -1,24 +1,21 @@
-use Rattle.std.proofs.Common.{◌≡◌, ℕ, ◌<◌, length}
-use Rattle.rdf_terms.specs.Lists.{In}
-use Rattle.map_search.specs.Numbers.{AreNumbers}
-use Rattle.lean_search.specs.Image.{quads_left}
+use Rattle.std.proofs.Common.{◌<◌, length}
 use Rattle.lean_search.proofs.Settling.{numbers_of, own_few, walk_some, walk_within}
 use Rattle.lean_search.specs.Image.{left}
 use Rattle.lean_search.proofs.component.search_walk.Goals as goal
 use Rattle.rdf_terms.proofs.MadeLists.{each-from_All}
 
 pub terms_of-requires : goal.terms_of-requires
-terms_of-requires c = walk_within c.args.graph.now c.args.room.now.index.live c.args.walk.now c.requires.one c.requires.walk
+terms_of-requires c = walk_within c.args.graph.now c.args.workspace.now.index.live c.args.walk.now c.requires.one c.requires.walk
 
 pub search_terms-requires-clause-some : goal.search_terms-requires-clause-some
-search_terms-requires-clause-some c = walk_some (left c.args.graph.now c.args.room.now.index.live) c.args.walk.now c.requires.walk
+search_terms-requires-clause-some c = walk_some (left c.args.graph.now c.args.workspace.now.index.live) c.args.walk.now c.requires.walk
 
 pub search_terms-requires-clause-within : goal.search_terms-requires-clause-within
-search_terms-requires-clause-within c = walk_within c.args.graph.now c.args.room.now.index.live c.args.walk.now c.requires.one c.requires.walk
+search_terms-requires-clause-within c = walk_within c.args.graph.now c.args.workspace.now.index.live c.args.walk.now c.requires.one c.requires.walk
 
 pub search_terms-requires-clause-numbers : goal.search_terms-requires-clause-numbers
 search_terms-requires-clause-numbers c =
-    numbers_of c.args.graph.now c.args.room.now.index.live c.requires.walk.0 c.args.walk.now c.in_ok-own.own.items c.requires.one c.requires.walk.1 c.in_ok-own.ensures.terms
+    numbers_of c.args.graph.now c.args.workspace.now.index.live c.requires.walk.0 c.args.walk.now c.in_ok-own.own.items c.requires.one c.requires.walk.1 c.in_ok-own.ensures.terms
     (λ k i. each-from_All (λ t. t < length c.args.graph.now.terms) c.in_ok-own.own.items k c.in_ok-own.ensures.in_range i)
 
 pub search_terms-requires-clause-once : goal.search_terms-requires-clause-once

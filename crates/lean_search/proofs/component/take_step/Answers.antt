@@ -9,6 +9,7 @@ returns-clause-step c = record {
   terms_are = refl;
   images_are = refl;
   steps_are = c.in_ok-push.ensures.items;
-  reached = subst (λ xs. LeavesReached c.args.graph.now (map_of xs c.args.images.items) c.args.room.now.index.live c.shrink.new.index.live) c.as_slice-2.ensures.value
-      (subst (λ ys. LeavesReached c.args.graph.now (map_of c.as_slice-2.result.now ys) c.args.room.now.index.live c.shrink.new.index.live) c.as_slice-3.ensures.value c.in_ok-shrink.ensures.reached);
+  reached = subst (λ xs. LeavesReached c.args.graph.now (map_of xs c.args.images.items) c.args.workspace.now.index.live c.shrink.new.index.live) c.as_slice-2.ensures.value
+      (subst (λ ys. LeavesReached c.args.graph.now
+      (map_of c.as_slice-2.result.now ys) c.args.workspace.now.index.live c.shrink.new.index.live) c.as_slice-3.ensures.value c.in_ok-shrink.ensures.reached);
 }

@@ -1,4 +1,3 @@
-use Rattle.std.proofs.Common.{◌↔◌, IsTrue}
 use Rattle.lean_search.proofs.Searching.{found}
 use Rattle.lean_search.proofs.missing.is_in.Goals as goal
 

@@ -1,8 +1,5 @@
-use Rattle.std.proofs.Common.{rules, ◌≡◌, ℕ, ◌+◌, ◌<◌, ◌≤◌, true, false, length, get_or, IsTrue, sym, ap, ◌∙◌, subst, below_more, arith, true≢false}
-use Rattle.rdf_terms.specs.Lists.{In, Permutes}
-use Rattle.rdf_terms.proofs.Permutations.{Permutes-from_IsPermutation, Permutes-sym, In-Permutes}
-use Rattle.map_search.specs.Pattern.{misses_node}
-use Rattle.rdf_terms.proofs.MadeLists.{In-get_or}
+use Rattle.std.proofs.Common.{rules, ◌≡◌, get_or, sym, ◌∙◌, subst, below_more, arith, true≢false}
+use Rattle.rdf_terms.proofs.Common.{In, Permutes, Permutes-from_IsPermutation, Permutes-sym, In-Permutes, In-get_or}
 use Rattle.lean_search.proofs.Hitting.{missing_one, missing_none, by_places}
 use Rattle.lean_search.proofs.missing.misses.Goals as goal
 

@@ -1,4 +1,4 @@
-use Rattle.std.proofs.Common.{◌≡◌, ℕ, ◌<◌, get_or}
+use Rattle.std.proofs.Common.{ℕ, ◌<◌, get_or}
 use Rattle.rdf_terms.specs.Lists.{In}
 use Rattle.lean_search.proofs.missing.misses.Given as goal
 

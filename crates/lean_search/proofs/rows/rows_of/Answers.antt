@@ -1,7 +1,7 @@
-use Rattle.std.proofs.Common.{◌≡◌, ◌+◌, ℕ, ◌<◌, ◌≤◌, length, map, get_or, sym, ap, ◌∙◌, subst, arith, rules}
+use Rattle.std.proofs.Common.{◌≡◌, ◌<◌, length, map, get_or, sym, ap, ◌∙◌, subst, arith, rules}
 use Rattle.std.specs.List.{filter, All}
 use Rattle.std.proofs.lemmas.List.{length-map}
-use Rattle.rdf_terms.specs.Document.{statements}
+use Rattle.rdf_terms.proofs.Common.{statements, All-from_each}
 use Rattle.dataset_index.specs.Mentions.{places_of}
 use Rattle.map_search.specs.Index.{quad_at}
 use Rattle.map_search.specs.Marks.{mark_at}
@@ -9,7 +9,6 @@ use Rattle.map_search.specs.Pattern.{row_at}
 use Rattle.lean_search.specs.Asked.{condition_for, row_for}
 use Rattle.lean_search.proofs.Asking.{ends_within, is_search, push_rows}
 use Rattle.lean_search.proofs.rows.rows_of.Goals as goal
-use Rattle.rdf_terms.proofs.MadeLists.{All-from_each}
 
 pub row-requires-clause-s : goal.row-requires-clause-s
 row-requires-clause-s c =

@@ -1,4 +1,4 @@
-use Rattle.std.proofs.Common.{◌≡◌, ℕ, ◌<◌, None}
+use Rattle.std.proofs.Common.{◌≡◌, None}
 use Rattle.std.specs.List.{All}
 use Rattle.std.proofs.Common.{take}
 use Rattle.lean_search.proofs.search.first_named.Given as goal

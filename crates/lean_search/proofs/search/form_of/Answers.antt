@@ -1,5 +1,5 @@
-use Rattle.std.proofs.Common.{◌≡◌, ℕ, ◌<◌, length, get_or, sym, ap, ◌∙◌, subst}
-use Rattle.lean_search.specs.Steps.{AreSteps, IsMapBy, IsNodeMapped, map_by_steps}
+use Rattle.std.proofs.Common.{◌<◌, length, get_or, sym, ap, ◌∙◌, subst}
+use Rattle.lean_search.specs.Steps.{AreSteps, IsMapBy, IsNodeMapped}
 use Rattle.lean_search.proofs.Ending.{map_by_form}
 use Rattle.lean_search.proofs.search.form_of.Goals as goal
 

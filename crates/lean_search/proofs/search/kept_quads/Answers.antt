@@ -1,4 +1,4 @@
-use Rattle.std.proofs.Common.{◌≡◌, ◌++◌, ◌∷◌, [], if◌then◌else◌, take, sym, ap, ◌∙◌, add-one}
+use Rattle.std.proofs.Common.{◌++◌, ◌∷◌, [], if◌then◌else◌, take, sym, ap, ◌∙◌, add-one}
 use Rattle.rdf_terms.specs.declared.term.Quad.{Quad}
 use Rattle.map_search.specs.Index.{kept, no_quad, quad_at}
 use Rattle.map_search.specs.Marks.{mark_at}

@@ -1,4 +1,4 @@
-use Rattle.std.proofs.Common.{◌≡◌, ◌<◌, length, refl, arith}
+use Rattle.std.proofs.Common.{refl, arith}
 use Rattle.std.proofs.lemmas.Option.{slice_get_within}
 use Rattle.rdf_terms.specs.declared.term.Term.TheVariants.{Blank}
 use Rattle.lean_search.proofs.search.node_mapped.Goals as goal

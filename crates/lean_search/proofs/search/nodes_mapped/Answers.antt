@@ -1,6 +1,6 @@
-use Rattle.std.proofs.Common.{◌≡◌, ◌+◌, ◌∷◌, [], ℕ, ◌<◌, length, get_or, sym, ap, ◌∙◌, subst, arith, length-append}
+use Rattle.std.proofs.Common.{◌≡◌, ◌+◌, ◌∷◌, [], length, get_or, sym, ap, ◌∙◌, subst, arith, length-append}
 use Rattle.lean_search.specs.Steps.{IsNodeMapped}
-use Rattle.lean_search.proofs.Ending.{push_each}
+use Rattle.lean_search.proofs.Asking.{push_each}
 use Rattle.lean_search.proofs.search.nodes_mapped.Goals as goal
 
 pub loop-node-preserved : goal.loop-node-preserved
@@ -10,5 +10,5 @@ loop-node-preserved c =
     record {
       count = (omega arith);
       each = λ n l. subst (λ xs. IsNodeMapped c.args.graph.now c.args.to.now n (get_or xs n 0)) (sym c.in_ok-push.ensures.items)
-          (push_each (IsNodeMapped c.args.graph.now c.args.to.now) c.loop-node.map.items c.loop-node.node c.node_mapped.result old c.loop-node.invariant.each c.node_mapped.ensures n l);
+          (push_each (IsNodeMapped c.args.graph.now c.args.to.now) 0 c.loop-node.map.items c.loop-node.node c.node_mapped.result old c.loop-node.invariant.each c.node_mapped.ensures n l);
     }

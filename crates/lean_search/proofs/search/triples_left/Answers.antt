@@ -1,4 +1,4 @@
-use Rattle.std.proofs.Common.{◌≡◌, ◌≤◌, length, ap, sym, ◌∙◌, subst, arith}
+use Rattle.std.proofs.Common.{◌≡◌, length, ap, sym, ◌∙◌, subst, arith}
 use Rattle.dataset_index.specs.QuadOrder.{Ascend}
 use Rattle.map_search.specs.Index.{kept}
 use Rattle.lean_search.proofs.Ending.{Ascend-kept}

@@ -1,6 +1,4 @@
-use Rattle.std.proofs.Common.{◌≡◌, ◌<◌, length, get_or, refl, sym, ap, ◌∙◌, arith, true≢false, eq-eqb}
-use Rattle.std.proofs.lemmas.Bool.{eqb-true}
-use Rattle.lean_search.specs.declared.places.TheConstants.{NONE}
+use Rattle.std.proofs.Common.{length, arith}
 use Rattle.lean_search.proofs.Reaching.{IsPlaced, image_at, image_kept, is_placed}
 use Rattle.lean_search.proofs.shrink.image_of.Goals as goal
 

@@ -1,7 +1,6 @@
-use Rattle.std.proofs.Common.{◌≡◌, ℕ, ◌+◌, ◌++◌, ◌↔◌, take, length, get_or, ap, sym, ◌∙◌, subst, arith}
+use Rattle.std.proofs.Common.{◌≡◌, ◌+◌, ◌++◌, ◌↔◌, take, get_or, ap, sym, ◌∙◌, subst, arith}
 use Rattle.std.specs.List.{filter}
-use Rattle.rdf_terms.specs.Lists.{In}
-use Rattle.rdf_terms.specs.Document.{statements}
+use Rattle.rdf_terms.proofs.Common.{In, statements}
 use Rattle.dataset_index.specs.Mentions.{places_of}
 use Rattle.map_search.specs.Marks.{mark_at}
 use Rattle.lean_search.specs.Image.{IsPlaceOfWalk}

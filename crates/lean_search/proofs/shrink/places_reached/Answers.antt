@@ -1,5 +1,5 @@
-use Rattle.std.proofs.Common.{◌≡◌, ℕ, ◌+◌, ◌<◌, ◌++◌, ◌↔◌, IfSome, take, length, get_or, ap, sym, ◌∙◌, subst, arith}
-use Rattle.std.specs.Option.{IfNone, option_to_list}
+use Rattle.std.proofs.Common.{◌≡◌, ◌+◌, ◌<◌, ◌↔◌, IfSome, take, length, get_or, ap, sym, ◌∙◌, subst, arith}
+use Rattle.std.specs.Option.{IfNone}
 use Rattle.rdf_terms.specs.Lists.{In}
 use Rattle.rdf_terms.specs.declared.term.Quad.{Quad}
 use Rattle.map_search.specs.Index.{quad_at}
@@ -19,7 +19,10 @@ loop-place-preserved c =
     (subst (λ qs. IfSome c.place_in.result (λ j. (j < length qs) × (quad_at qs j ≡ c.carried_by-carried.result))) c.quads-in-loop-place.ensures.quads c.place_in.ensures.some) in
     let none = subst (λ (q : Quad). IfNone c.place_in.result (¬ (In q c.args.graph.now.quads))) to
     (subst (λ qs. IfNone c.place_in.result (¬ (In c.carried_by-carried.result qs))) c.quads-in-loop-place.ensures.quads c.place_in.ensures.none) in
-    λ k. subst (λ xs. In k xs ↔ IsReachedFrom c.args.graph.now (map_of c.args.own.now c.args.images.now) (take (c.loop-place.place-index + 1) c.args.places.now) k) (sym c.in_ok-push_some.ensures) (more_reached c.args.graph.now (map_of c.args.own.now c.args.images.now) c.args.places.now c.loop-place.reached.items c.loop-place.place-index c.place_in.result c.requires.one.quads_once c.loop-place-test.true some none c.loop-place.invariant k)
+    λ k. subst (λ xs. In k xs ↔ IsReachedFrom c.args.graph.now (map_of c.args.own.now c.args.images.now) (take (c.loop-place.place-index + 1) c.args.places.now) k) (sym c.in_ok-push_some.ensures)
+    (more_reached c.args.graph.now
+    (map_of c.args.own.now c.args.images.now) c.args.places.now c.loop-place.reached.items c.loop-place.place-index c.place_in.result c.requires.one.quads_once c.loop-place-test.true some none
+    c.loop-place.invariant k)
 
 pub returns : goal.returns
 returns c = all_reached c.args.graph.now (map_of c.args.own.now c.args.images.now) c.args.places.now c.loop-place.reached.items c.loop-place.place-index

@@ -1,11 +1,10 @@
-use Rattle.std.proofs.Common.{◌≡◌, ℕ, ◌<◌, ◌↔◌, length, sym, ap, ◌∙◌, subst, arith}
+use Rattle.std.proofs.Common.{◌≡◌, ◌<◌, ◌↔◌, length, sym, ap, ◌∙◌, subst, arith}
 use Rattle.std.specs.List.{All}
-use Rattle.rdf_terms.specs.Lists.{In}
+use Rattle.rdf_terms.proofs.Common.{In, All-from_each}
 use Rattle.map_search.specs.Pattern.{map_of}
 use Rattle.lean_search.specs.Image.{IsReachedFrom}
 use Rattle.lean_search.proofs.Shrinking.{leaves_reached}
 use Rattle.lean_search.proofs.shrink.shrink.Goals as goal
-use Rattle.rdf_terms.proofs.MadeLists.{All-from_each}
 
 pub places_reached-requires-clause-within : goal.places_reached-requires-clause-within
 places_reached-requires-clause-within c =
@@ -25,7 +24,9 @@ set_all-requires-2 c =
     (All-from_each (λ k. k < length c.set_all.new.index.quads) c.in_ok-reached.reached.items (λ k i. (let w = ((c.in_ok-reached.ensures k).0 i).within in omega arith)))
 
 pub returns-clause-reached : goal.returns-clause-reached
-returns-clause-reached c = leaves_reached c.args.graph.now c.requires.one c.args.index.now.live c.set_all.new.index.live c.set_all-2.new.index.live c.args.walk.now c.args.own.now c.args.images.now c.in_ok-places.places.items c.in_ok-reached.reached.items c.requires.terms c.requires.index.count c.in_ok-places.ensures
+returns-clause-reached c =
+    leaves_reached c.args.graph.now c.requires.one c.args.index.now.live c.set_all.new.index.live c.set_all-2.new.index.live c.args.walk.now c.args.own.now c.args.images.now
+    c.in_ok-places.places.items c.in_ok-reached.reached.items c.requires.terms c.requires.index.count c.in_ok-places.ensures
     (λ k. subst (λ ps. In k c.in_ok-reached.reached.items ↔ IsReachedFrom c.args.graph.now (map_of c.args.own.now c.args.images.now) ps k) c.as_slice.ensures.value (c.in_ok-reached.ensures k))
     (λ k i. c.set_all.ensures.here k (subst (λ ps. In k ps) (sym c.as_slice-2.ensures.value) i) (let w = ((c.in_ok-places.ensures k).0 i).within in let n = c.requires.index.count in omega arith))
     (λ k out. c.set_all.ensures.others k (subst (λ ps. ¬ (In k ps)) (sym c.as_slice-2.ensures.value) out))

@@ -1,5 +1,4 @@
-use Rattle.std.proofs.Common.{◌≡◌, ◌<◌, ◌-◌, ◌≤◌, length, get_or, rules, arith, subst, sym, ◌∙◌}
-use Rattle.std.specs.List.{All}
+use Rattle.std.proofs.Common.{◌≡◌, ◌<◌, ◌-◌, length, get_or, rules, arith, subst, sym, ◌∙◌}
 use Rattle.std.proofs.lemmas.List.Elements.{All-get_or}
 use Rattle.lean_search.specs.Steps.{IsStep}
 use Rattle.lean_search.proofs.Composing.{one_before}
@@ -16,5 +15,7 @@ loop-at-preserved c =
     record {
       within = (let w = c.loop-at.invariant.within in omega arith);
       count = m ∙ n;
-      each = one_before c.args.steps.now c.loop-at.at c.index-steps-at.result c.loop-at.to.items c.begin_with.new.to.items c.args.terms some c.loop-at.invariant.within is step.images_in_range c.loop-at.invariant.each (λ k l. c.in_ok-begin_with.ensures.each k (subst (λ x. k < x) (sym n) l));
+      each =
+          one_before c.args.steps.now c.loop-at.at c.index-steps-at.result c.loop-at.to.items c.begin_with.new.to.items c.args.terms some c.loop-at.invariant.within is step.images_in_range
+          c.loop-at.invariant.each (λ k l. c.in_ok-begin_with.ensures.each k (subst (λ x. k < x) (sym n) l));
     }

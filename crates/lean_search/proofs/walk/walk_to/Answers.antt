@@ -1,17 +1,16 @@
-use Rattle.std.proofs.Common.{◌≡◌, ℕ, ◌<◌, ◌++◌, ◌∷◌, ◌⊎◌, ◌↔◌, [], true, false, length, set, sym, ap, ◌∙◌, subst, arith}
+use Rattle.std.proofs.Common.{◌≡◌, ◌<◌, ◌++◌, ◌∷◌, [], true, length, set, sym, ◌∙◌, subst, arith}
 use Rattle.std.specs.List.{filter, All}
-use Rattle.rdf_terms.specs.Document.{statements}
+use Rattle.rdf_terms.proofs.Common.{statements, All-from_each}
 use Rattle.dataset_index.specs.Mentions.{places_of}
 use Rattle.map_search.specs.Marks.{mark_at}
 use Rattle.lean_search.specs.Image.{left}
-use Rattle.lean_search.specs.Walk.{IsNear, IsWalking}
+use Rattle.lean_search.specs.Walk.{IsWalking}
 use Rattle.lean_search.proofs.AtNodes.{place_left}
 use Rattle.lean_search.proofs.Walking.{goes_on, next_of, ahead_within}
 use Rattle.lean_search.proofs.walk.walk_to.Goals as goal
-use Rattle.rdf_terms.proofs.MadeLists.{All-from_each}
 
-pub note_ends-requires-clause-within : goal.note_ends-requires-clause-within
-note_ends-requires-clause-within c =
+pub mark_ends-requires-clause-within : goal.mark_ends-requires-clause-within
+mark_ends-requires-clause-within c =
     let e : c.as_slice.result.now ≡ filter (mark_at c.args.index.now.live) (places_of (statements c.args.graph.now) c.args.node) = c.as_slice.ensures.value ∙ c.in_ok-places.ensures in
     subst (λ ps. All (λ k. k < length c.args.graph.now.quads) ps) (sym e)
     (All-from_each (λ k. k < length c.args.graph.now.quads) (filter (mark_at c.args.index.now.live) (places_of (statements c.args.graph.now) c.args.node))
@@ -19,31 +18,22 @@ note_ends-requires-clause-within c =
 
 pub next_ahead-requires : goal.next_ahead-requires
 next_ahead-requires c k m =
-    let e : c.as_slice.result.now ≡ filter (mark_at c.args.index.now.live) (places_of (statements c.args.graph.now) c.args.node) = c.as_slice.ensures.value ∙ c.in_ok-places.ensures in
-    let w : IsWalking (left c.args.graph.now c.args.index.now.live) (c.args.walk.now.items ++ c.args.node ∷ [])
-    (set c.args.walked.now c.args.node true) c.note_ends.new.ahead =
-    goes_on c.args.graph.now c.args.index.now.live c.requires.one c.args.walk.now.items c.args.walked.now c.args.ahead.now c.set.new.self c.note_ends.new.ahead c.args.node c.requires.walking
-    (let a = c.requires.within in let b = c.requires.walked in omega arith) c.set.ensures.here c.set.ensures.others
-    (λ k. subst
-    (λ ps. (mark_at c.note_ends.new.ahead k ≡ true) ↔ ((mark_at c.set.new.self k ≡ true) ⊎ (IsNear c.args.graph.now ps k × (mark_at (set c.args.walked.now c.args.node true) k ≡ false)))) e
-    (c.note_ends.ensures.marks k)) in
-    let l = ahead_within c.args.graph.now c.args.index.now.live (c.args.walk.now.items ++ c.args.node ∷ []) (set c.args.walked.now c.args.node true) c.note_ends.new.ahead c.requires.one w k m in
+    let w =
+    goes_on c.args.graph.now c.args.index.now.live c.requires.one c.args.walk.now.items c.args.walked.now c.args.ahead.now c.set.new.self c.mark_ends.new.ahead c.args.node c.requires.walking
+    (let a = c.requires.within in let b = c.requires.walked in omega arith) c.set.ensures.here c.set.ensures.others c.as_slice.result.now (c.as_slice.ensures.value ∙ c.in_ok-places.ensures)
+    c.mark_ends.ensures.marks in
+    let l = ahead_within c.args.graph.now c.args.index.now.live (c.args.walk.now.items ++ c.args.node ∷ []) (set c.args.walked.now c.args.node true) c.mark_ends.new.ahead c.requires.one w k m in
     let b = c.requires.one.document.draft.labels_bound in
     omega arith
 
 pub returns-clause-walking : goal.returns-clause-walking
 returns-clause-walking c =
-    let e : c.as_slice.result.now ≡ filter (mark_at c.args.index.now.live) (places_of (statements c.args.graph.now) c.args.node) = c.as_slice.ensures.value ∙ c.in_ok-places.ensures in
-    let w : IsWalking (left c.args.graph.now c.args.index.now.live) (c.args.walk.now.items ++ c.args.node ∷ [])
-    (set c.args.walked.now c.args.node true) c.note_ends.new.ahead =
-    goes_on c.args.graph.now c.args.index.now.live c.requires.one c.args.walk.now.items c.args.walked.now c.args.ahead.now c.set.new.self c.note_ends.new.ahead c.args.node c.requires.walking
-    (let a = c.requires.within in let b = c.requires.walked in omega arith) c.set.ensures.here c.set.ensures.others
-    (λ k. subst
-    (λ ps. (mark_at c.note_ends.new.ahead k ≡ true) ↔ ((mark_at c.set.new.self k ≡ true) ⊎ (IsNear c.args.graph.now ps k × (mark_at (set c.args.walked.now c.args.node true) k ≡ false)))) e
-    (c.note_ends.ensures.marks k)) in
-    subst (λ ws. IsWalking (left c.args.graph.now c.args.index.now.live) ws (set c.args.walked.now c.args.node true) c.note_ends.new.ahead) (sym c.in_ok-push.ensures.items) w
+    subst (λ ws. IsWalking (left c.args.graph.now c.args.index.now.live) ws (set c.args.walked.now c.args.node true) c.mark_ends.new.ahead) (sym c.in_ok-push.ensures.items)
+    (goes_on c.args.graph.now c.args.index.now.live c.requires.one c.args.walk.now.items c.args.walked.now c.args.ahead.now c.set.new.self c.mark_ends.new.ahead c.args.node c.requires.walking
+    (let a = c.requires.within in let b = c.requires.walked in omega arith) c.set.ensures.here c.set.ensures.others c.as_slice.result.now (c.as_slice.ensures.value ∙ c.in_ok-places.ensures)
+    c.mark_ends.ensures.marks)
 
 pub returns-clause-next : goal.returns-clause-next
 returns-clause-next c =
-    next_of (left c.args.graph.now c.args.index.now.live) c.push.new.self.items (set c.args.walked.now c.args.node true) c.note_ends.new.ahead c.next_ahead.result
+    next_of (left c.args.graph.now c.args.index.now.live) c.push.new.self.items (set c.args.walked.now c.args.node true) c.mark_ends.new.ahead c.next_ahead.result
     (returns-clause-walking c) c.next_ahead.ensures.some c.next_ahead.ensures.none

@@ -2,7 +2,7 @@
 ghost use Rattle.std.specs.Prelude.{◌≡◌, ◌<◌, ℕ, true, false, [], length, slice_index, IfOk};
 ghost use Rattle.map_search.specs.Marks.{mark_at};
 ghost use Rattle.lean_search.specs.Image.{IsOneGraph};
-ghost use Rattle.lean_search.specs.Room.{IsRoom};
+ghost use Rattle.lean_search.specs.Workspace.{IsWorkspace};
 
 use crate::places::NONE;
 use crate::steps::Step;
@@ -14,7 +14,7 @@ use std::alloc::Global;
 // The triples that are left, and the steps that led there. A walk through a component and its search
 // touch the places and marks of its own nodes alone, and take them back.
 #[derive(Drop)]
-pub(crate) struct Room {
+pub(crate) struct Workspace {
     pub(crate) index: Index,
     pub(crate) steps: Vec<Step>,
     pub(crate) place_of: Vec<u32>,
@@ -36,16 +36,16 @@ pub(crate) fn no_marks(alloc: Global, count: u32) -> Result<Vec<bool>, NoMemory>
     Ok(vec![in alloc; false; count as usize]?)
 }
 
-// Room for the search of the graph, of which all is left.
-pub(crate) fn make_room(alloc: Global, graph: &Dataset) -> Result<Room, NoMemory>
+// The workspace for the search of the graph, of which all is left.
+pub(crate) fn new_workspace(alloc: Global, graph: &Dataset) -> Result<Workspace, NoMemory>
     requires { IsOneGraph graph.now }
-    ensures room { IfOk result (IsRoom graph.now) }
-    ensures all { IfOk result (λ room. (k : ℕ) → k < length graph.now.quads → mark_at room.index.live k ≡ true) }
-    ensures steps { IfOk result (λ room. room.steps.items ≡ []) }
+    ensures workspace { IfOk result (IsWorkspace graph.now) }
+    ensures all { IfOk result (λ workspace. (k : ℕ) → k < length graph.now.quads → mark_at workspace.index.live k ≡ true) }
+    ensures steps { IfOk result (λ workspace. workspace.steps.items ≡ []) }
 {
     let nodes = graph.node_count();
     let terms = graph.terms().len();
-    Ok(Room {
+    Ok(Workspace {
         index: Index::build(alloc, graph.quads(), terms)?,
         steps: Vec::new(alloc),
         place_of: no_places(alloc, terms)?,
