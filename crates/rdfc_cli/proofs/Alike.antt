@@ -1,10 +1,6 @@
 -- Isomorphic files get their bijection, where one of them has no unjoined tie.
 use Rattle.std.proofs.Common.{◌≡◌, ℕ, ◌<◌, List, ◌∷◌, Option, IfSome, inl, inr, refl, sym, ap, ◌∙◌, subst}
-use Rattle.rdf_terms.specs.Lists.{Text, In, permutes_trans}
-use Rattle.rdf_terms.specs.Dataset.{Dataset}
-use Rattle.rdf_terms.specs.Isomorphism.{Relabelling, Carries, AreIsomorphic, relabel_statement}
-use Rattle.rdf_terms.proofs.Membership.{In-append_right}
-use Rattle.rdf_terms.proofs.Permutations.{Permutes-map, Permutes-sym}
+use Rattle.rdf_terms.proofs.Common.{Text, In, permutes_trans, Dataset, Relabelling, Carries, AreIsomorphic, relabel_statement, In-append_right, Permutes-map, Permutes-sym}
 use Rattle.canon_model.specs.Hashing.{Hashing}
 use Rattle.canon_model.specs.JoinedTies.{IsSettled}
 use Rattle.canon_model.specs.QuadOrder.{HaveSameQuads}
@@ -95,7 +91,11 @@ module _ {K : Type 0} (taken : K → Option Text) (faults : K → ℕ) where
       (read_quads settings (file second) p.other a.1.other p.other_fine a.1.accepts_other) p.isomorphic)
   finds_bijections file first second settings old new Usage p none a = absurd a.1
   finds_bijections file first second settings old new (Unsettled tie) p none a = absurd (let e = a.2.0 in cc)
-  finds_bijections file first second settings old new (Refused refusal) p none a = elim a.1 [ inl r ↦ elim r [ inl h ↦ not_refused settings (file first) p.content refusal.cause p.fine h.1 | inr h ↦ not_refused settings (file second) p.other refusal.cause p.other_fine h.2 ] | inr r ↦ r.2 ]
+  finds_bijections file first second settings old new (Refused refusal) p none a =
+      elim a.1 [
+        | inl r ↦ elim r [ inl h ↦ not_refused settings (file first) p.content refusal.cause p.fine h.1 | inr h ↦ not_refused settings (file second) p.other refusal.cause p.other_fine h.2 ]
+        | inr r ↦ r.2
+      ]
   finds_bijections file first second settings old new (ReadFault place) p none a = elim a.1 [ inl h ↦ p.fine.no_read_failed h.1 | inr h ↦ p.other_fine.no_read_failed h.2 ]
   finds_bijections file first second settings old new WriteFault p none a = none a.0
   finds_bijections file first second settings old new (WorkLimit place limit) p none a = elim a.1.1.fact [
@@ -105,6 +105,8 @@ module _ {K : Type 0} (taken : K → Option Text) (faults : K → ℕ) where
   finds_bijections file first second settings old new NoMemory p none a = tt
   finds_bijections file first second settings old new (SearchLimit limit image) p none a = absurd a.1.1
   finds_bijections file first second settings old new (Undecided s t) p none a = elim p.settled [
-    | inl h ↦ not_unsettled (hashing_of settings) a.1.content.dataset s (same_settled (hashing_of settings) p.content.dataset a.1.content.dataset (read_quads settings (file first) p.content a.1.content p.fine a.1.accepts) h) a.1.fact.2.first
-    | inr h ↦ not_unsettled (hashing_of settings) a.1.other.dataset t (same_settled (hashing_of settings) p.other.dataset a.1.other.dataset (read_quads settings (file second) p.other a.1.other p.other_fine a.1.accepts_other) h) a.1.fact.2.second
+    | inl h ↦ not_unsettled (hashing_of settings) a.1.content.dataset s (same_settled (hashing_of settings) p.content.dataset a.1.content.dataset
+        (read_quads settings (file first) p.content a.1.content p.fine a.1.accepts) h) a.1.fact.2.first
+    | inr h ↦ not_unsettled (hashing_of settings) a.1.other.dataset t (same_settled (hashing_of settings) p.other.dataset a.1.other.dataset
+        (read_quads settings (file second) p.other a.1.other p.other_fine a.1.accepts_other) h) a.1.fact.2.second
   ]

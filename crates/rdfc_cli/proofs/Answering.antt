@@ -1,7 +1,6 @@
 -- From what a command did to what a run answers.
 use Rattle.std.proofs.Common.{◌≡◌, ℕ, ◌≤◌, Option, Some, None, IfSome, Result, Ok, Err, IfOk, IfErr, inl, inr, refl, sym, ap, subst, arith}
-use Rattle.rdf_terms.specs.Lists.{Text}
-use Rattle.rdf_terms.specs.Document.{Document}
+use Rattle.rdf_terms.proofs.Common.{Text, Document}
 use Rattle.outside.specs.Faults.{Rose}
 use Rattle.load_document.specs.LoadDocument.{load_document}
 use Rattle.rdfc_cli.specs.Answers.{Content, Accepts, FileSeen, IsCause, IfAccepted, AreBothAccepted, IsPast, IsRunText, IsWritten, Stops, Answers}
@@ -24,7 +23,8 @@ use Rattle.rdfc_cli.specs.declared.status.Status.TheVariants.{Done, Different, U
 
 -- ---- a file that is told is accepted
 
-if_told : (syntax : Syntax) (told : Option Text) (content : Content) (Fact : Content → Type 0) → IfSome told (λ t. Accepts syntax t content) → Fact content → IfSome told (λ bytes. (content : Content) × Accepts syntax bytes content × Fact content)
+if_told : (syntax : Syntax) (told : Option Text) (content : Content) (Fact : Content → Type 0) → IfSome told (λ t. Accepts syntax t content) → Fact content
+    → IfSome told (λ bytes. (content : Content) × Accepts syntax bytes content × Fact content)
 if_told syntax None content Fact a f = tt
 if_told syntax (Some t) content Fact a f = (content, a, f)
 
@@ -39,28 +39,24 @@ module _ (file : Text → FileSeen) (task : Task) (word : Text) (settings : Sett
   stops-file_fault (RefusedFile cause) status f e = subst (Stops file (on_file task word) settings) (sym e) (inl (refl, f))
   stops-file_fault NoMemoryForFile status f e = subst (Stops file (on_file task word) settings) (sym e) tt
 
-  pub stops-run : (d : Document) (status : Status) → IfSome (file word).told (λ t. Accepts (file word).syntax t (content_of d)) → IsRunStop settings d status → Stops file (on_file task word) settings status
-  stops-run d Done a s = absurd s
-  stops-run d Different a s = absurd s
-  stops-run d Usage a s = absurd s
-  stops-run d (Unsettled tie) a s = absurd s
-  stops-run d (Refused refusal) a s = absurd s
-  stops-run d (ReadFault place) a s = absurd s
-  stops-run d WriteFault a s = absurd s
+  pub stops-run : (d : Document) (status : Status) → IfSome (file word).told (λ t. Accepts (file word).syntax t (content_of d)) → IsRunStop settings d status
+      → Stops file (on_file task word) settings status
   stops-run d (WorkLimit place limit) a s = (s.1, (s.0, if_accepted (file word) d (λ content. IsPast settings content.dataset) a s.2))
   stops-run d NoMemory a s = tt
-  stops-run d (Undecided t u) a s = absurd s
-  stops-run d (SearchLimit limit image) a s = absurd s
+  stops-run d status a s = absurd s
 
-  pub written : (d : Document) (output : Output) → IfSome (file word).told (λ t. Accepts (file word).syntax t (content_of d)) → IsTaskOutput task settings d output → IsWritten file (on_file task word) settings output.unsettled output.text
+  pub written : (d : Document) (output : Output) → IfSome (file word).told (λ t. Accepts (file word).syntax t (content_of d)) → IsTaskOutput task settings d output
+      → IsWritten file (on_file task word) settings output.unsettled output.text
   written d output a o = if_accepted (file word) d (λ content. IsRunText settings output.unsettled (λ ρ. IsTextOf task ρ content.dataset content.labels) content.dataset output.text) a o
 
 -- ---- two files
 
 -- what a later look at the file says of a fault, an earlier one says too
-pub fault-seen_before : (file later : FileSeen) (fault : FileFault) → later.syntax ≡ file.syntax → later.told ≡ file.told → file.faults ≤ later.faults → later.faults_now ≡ file.faults_now → IsFileFault later fault → IsFileFault file fault
+pub fault-seen_before : (file later : FileSeen) (fault : FileFault) → later.syntax ≡ file.syntax → later.told ≡ file.told → file.faults ≤ later.faults → later.faults_now ≡ file.faults_now
+    → IsFileFault later fault → IsFileFault file fault
 fault-seen_before file later Failed syntax told before now f = omega (arith, f)
-fault-seen_before file later (RefusedFile cause) syntax told before now f = subst (λ t. IfSome t (λ bytes. IsCause file.syntax bytes cause)) told (subst (λ x. IfSome later.told (λ bytes. IsCause x bytes cause)) syntax f)
+fault-seen_before file later (RefusedFile cause) syntax told before now f =
+    subst (λ t. IfSome t (λ bytes. IsCause file.syntax bytes cause)) told (subst (λ x. IfSome later.told (λ bytes. IsCause x bytes cause)) syntax f)
 fault-seen_before file later NoMemoryForFile syntax told before now f = tt
 
 -- a file of which more is known than that it is accepted
@@ -73,12 +69,14 @@ module _ (file : Text → FileSeen) (first second : Text) (settings : Settings) 
   stops-first_fault (RefusedFile cause) status f e = subst (Stops file (compare first second) settings) (sym e) (inl (inl (refl, f)))
   stops-first_fault NoMemoryForFile status f e = subst (Stops file (compare first second) settings) (sym e) tt
 
-  pub stops-second_fault : (fault : FileFault) (status : Status) → IfAccepted (file first) (λ content. Unit {0}) → IsFileFault (file second) fault → IsFaultStatus fault 1 status → Stops file (compare first second) settings status
+  pub stops-second_fault : (fault : FileFault) (status : Status) → IfAccepted (file first) (λ content. Unit {0}) → IsFileFault (file second) fault → IsFaultStatus fault 1 status
+      → Stops file (compare first second) settings status
   stops-second_fault Failed status a f e = subst (Stops file (compare first second) settings) (sym e) (inr (refl, a, f))
   stops-second_fault (RefusedFile cause) status a f e = subst (Stops file (compare first second) settings) (sym e) (inl (inr (refl, a, f)))
   stops-second_fault NoMemoryForFile status a f e = subst (Stops file (compare first second) settings) (sym e) tt
 
-  module _ (content other : Content) (accepts : IfSome (file first).told (λ t. Accepts (file first).syntax t content)) (accepts_other : IfSome (file second).told (λ t. Accepts (file second).syntax t other)) where
+  module _ (content other : Content) (accepts : IfSome (file first).told (λ t. Accepts (file first).syntax t content))
+      (accepts_other : IfSome (file second).told (λ t. Accepts (file second).syntax t other)) where
     both : (Fact : Content → Content → Type 0) → Fact content other → AreBothAccepted (file first) (file second) Fact
     both Fact f = record { content = content; other = other; accepts = accepts; accepts_other = accepts_other; fact = f }
 
@@ -86,17 +84,11 @@ module _ (file : Text → FileSeen) (first second : Text) (settings : Settings) 
     written-pair output o = (o.none_unsettled, both _ o.pairing)
 
     pub stops-pair : (status : Status) → IsPairStop settings content other status → Stops file (compare first second) settings status
-    stops-pair Done s = absurd s
     stops-pair Different s = both _ s
-    stops-pair Usage s = absurd s
-    stops-pair (Unsettled tie) s = absurd s
-    stops-pair (Refused refusal) s = absurd s
-    stops-pair (ReadFault place) s = absurd s
-    stops-pair WriteFault s = absurd s
     stops-pair (WorkLimit place limit) s = (s.0, both _ s.1)
     stops-pair NoMemory s = tt
     stops-pair (Undecided t u) s = both _ s
-    stops-pair (SearchLimit limit image) s = absurd s
+    stops-pair status s = absurd s
 
 -- ---- a graph that is leaned
 
@@ -107,20 +99,14 @@ module _ (file : Text → FileSeen) (word : Text) (settings : Settings) where
   stops-graph_fault NoMemoryForFile status f e = subst (Stops file (lean word) settings) (sym e) tt
 
   pub stops-graph : (d : Document) (status : Status) → IfSome (file word).told (λ t. Accepts (file word).syntax t (content_of d)) → IsLeanEnd settings d status → Stops file (lean word) settings status
-  stops-graph d Done a s = absurd s
-  stops-graph d Different a s = absurd s
-  stops-graph d Usage a s = absurd s
-  stops-graph d (Unsettled tie) a s = absurd s
   stops-graph d (Refused refusal) a s =
       inr (ap (λ (r : Refusal). r.cause) s.0, ap (λ (r : Refusal). r.file) s.0, if_accepted (file word) d (λ content. HasGraphName content.dataset.statements) a s.1)
-  stops-graph d (ReadFault place) a s = absurd s
-  stops-graph d WriteFault a s = absurd s
-  stops-graph d (WorkLimit place limit) a s = absurd s
   stops-graph d NoMemory a s = tt
-  stops-graph d (Undecided t u) a s = absurd s
   stops-graph d (SearchLimit limit image) a s = (s.0, if_accepted (file word) d (λ content. IsPastMaps content.dataset settings.limit image) a s.1)
+  stops-graph d status a s = absurd s
 
-  pub written-graph : (d : Document) (output : Output) → IfSome (file word).told (λ t. Accepts (file word).syntax t (content_of d)) → IsLeanOutput settings d output → IsWritten file (lean word) settings output.unsettled output.text
+  pub written-graph : (d : Document) (output : Output) → IfSome (file word).told (λ t. Accepts (file word).syntax t (content_of d)) → IsLeanOutput settings d output
+      → IsWritten file (lean word) settings output.unsettled output.text
   written-graph d output a o = (o.0, if_accepted (file word) d (λ content. IsLeaning settings.map settings.limit content.dataset output.text) a o.1)
 
 -- ---- a document that is made
@@ -130,17 +116,9 @@ module _ (file : Text → FileSeen) (n : ℕ) (settings : Settings) (d : Documen
   written-made output o = (content_of d, accepts, o)
 
   pub stops-made : (status : Status) → IsRunStop settings d status → Stops file (load n) settings status
-  stops-made Done s = absurd s
-  stops-made Different s = absurd s
-  stops-made Usage s = absurd s
-  stops-made (Unsettled tie) s = absurd s
-  stops-made (Refused refusal) s = absurd s
-  stops-made (ReadFault place) s = absurd s
-  stops-made WriteFault s = absurd s
   stops-made (WorkLimit place limit) s = (s.1, (s.0, (content_of d, accepts, s.2)))
-  stops-made (SearchLimit limit image) s = absurd s
   stops-made NoMemory s = tt
-  stops-made (Undecided t u) s = absurd s
+  stops-made status s = absurd s
 
 -- ---- results
 
@@ -158,29 +136,15 @@ module _ {K : Type 0} (taken : K → Option Text) (faults : K → ℕ) (file : T
   pub answers-delivered : (old new : K) (output : Output) (status : Status) → Delivers (taken old) (taken new) output status → (status ≡ WriteFault → Rose (faults old) (faults new))
       → IsWritten file command settings output.unsettled output.text → Answers taken faults file command settings old new status
   answers-delivered old new output Done d rose w = (output.text, d.1, subst (λ found. IsWritten file command settings found output.text) d.0 w)
-  answers-delivered old new output Different d rose w = absurd d
-  answers-delivered old new output Usage d rose w = absurd d
   answers-delivered old new output (Unsettled tie) d rose w = (output.text, d.1, subst (λ found. IsWritten file command settings found output.text) d.0 w)
-  answers-delivered old new output (Refused refusal) d rose w = absurd d
-  answers-delivered old new output (ReadFault place) d rose w = absurd d
   answers-delivered old new output WriteFault d rose w = (rose refl, (output.text, output.unsettled, d, w))
-  answers-delivered old new output (WorkLimit place limit) d rose w = absurd d
-  answers-delivered old new output NoMemory d rose w = absurd d
-  answers-delivered old new output (Undecided s t) d rose w = absurd d
-  answers-delivered old new output (SearchLimit limit image) d rose w = absurd d
+  answers-delivered old new output status d rose w = absurd d
 
   pub answers-stopped : (old : K) (status : Status) → Stops file command settings status → Answers taken faults file command settings old old status
   answers-stopped old Done s = absurd s
-  answers-stopped old Different s = (refl, s)
-  answers-stopped old Usage s = absurd s
   answers-stopped old (Unsettled tie) s = absurd s
-  answers-stopped old (Refused refusal) s = (refl, s)
-  answers-stopped old (ReadFault place) s = (refl, s)
   answers-stopped old WriteFault s = absurd s
-  answers-stopped old (WorkLimit place limit) s = (refl, s)
-  answers-stopped old NoMemory s = (refl, s)
-  answers-stopped old (Undecided t u) s = (refl, s)
-  answers-stopped old (SearchLimit limit image) s = (refl, s)
+  answers-stopped old status s = (refl, s)
 
   pub never_usage : (old new : K) (status : Status) → Answers taken faults file command settings old new status → ¬ (status ≡ Usage)
   never_usage old new status a e = (subst (Answers taken faults file command settings old new) e a).1

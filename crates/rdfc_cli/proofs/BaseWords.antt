@@ -5,8 +5,7 @@ use Rattle.std.proofs.lemmas.Bool.{not-true}
 use Rattle.std.proofs.lemmas.List.Sums.{prefix_len_passes}
 use Rattle.char_tables.specs.Rows.{is_in}
 use Rattle.char_tables.specs.Classes.{excluded_from_iriref, may_stand_in_iriref}
-use Rattle.rdf_terms.specs.Lists.{Text}
-use Rattle.rdf_terms.specs.Terms.{HasScheme}
+use Rattle.rdf_terms.proofs.Common.{Text, HasScheme}
 use Rattle.terminals.proofs.Facts.{iri_characters}
 use Rattle.trig_builder.specs.Building.{IsWhole as IsBase}
 

@@ -1,18 +1,15 @@
 -- Commands as words: some words spell at most one command, with one list of options.
 use Rattle.std.proofs.Common.{◌≡◌, ℕ, ◌⊎◌, Bool, None, IfSome, true≢false, arith, List, [], ◌∷◌, ◌++◌, codes, get_or, inl, inr, if◌then◌else◌, ◌==◌, refl, sym, ap, ◌∙◌, subst, true, false}
 use Rattle.std.specs.Prelude.{flat_map}
-use Rattle.rdf_terms.specs.Lists.{Text, In}
-use Rattle.rdf_terms.specs.Numeral.{numeral}
-use Rattle.rdf_terms.proofs.Membership.{In-map, from_In-map}
-use Rattle.rdf_terms.proofs.Numerals.{IsDigit, In-numeral, numeral-injective}
+use Rattle.rdf_terms.proofs.Common.{Text, In, numeral, In-map, from_In-map, IsDigit, In-numeral, numeral-injective}
 use Rattle.canon_model.specs.declared.profile.HashKind.TheVariants.{Sha256}
 use Rattle.canon_model.specs.declared.profile.Related.TheVariants.{Each}
 use Rattle.trig_builder.specs.Building.{IsWhole as IsBase}
-use Rattle.rdfc_cli.specs.Words.{Command, Given, Syntax, task_word, command_word, operands, option_name, spelled_option, name_word, given_base, given_trig, HasGoodOperands, HasGoodValue, TakesOption, IsCommand, IsNoCommand, settings_in, syntax_in}
+use Rattle.rdfc_cli.specs.Words.{Command, Given, Syntax, task_word, command_word, operands, option_name, spelled_option, name_word, HasGoodOperands, HasGoodValue, TakesOption, IsCommand, IsNoCommand}
 use Rattle.rdfc_cli.specs.Words.Command.{on_file, compare, lean, load}
 use Rattle.rdfc_cli.specs.Words.Given.{hash, related, as_map, as_trig, base}
 use Rattle.rdfc_cli.specs.Words.Syntax.{nquads, trig}
-use Rattle.rdfc_cli.specs.Options.{Chosen, chosen_by, AreTaken, IsNew, HasFittingBase, BeginsNoOption, BeginsWithOptions, AreOptions, AreNoOptions}
+use Rattle.rdfc_cli.specs.Options.{Chosen, chosen_by, settings_in, syntax_in, AreTaken, IsNew, HasFittingBase, BeginsNoOption, BeginsWithOptions, AreOptions, AreNoOptions}
 use Rattle.rdfc_cli.specs.Requests.{command_of, syntax_of, IsRequest, IsSpelled, HasGoodBase}
 use Rattle.rdfc_cli.specs.declared.words.Request.{Request}
 use Rattle.rdfc_cli.specs.declared.options.Settings.{Settings}
@@ -36,24 +33,18 @@ task_of_word Ties = refl
 task_word-injective : (s t : Task) → task_word s ≡ task_word t → s ≡ t
 task_word-injective s t e = sym (task_of_word s) ∙ ap (λ w. task_at (get_or w 0 0)) e ∙ task_of_word t
 
--- two words with different bytes at this place
-differ_at : (i byte : ℕ) (s t : Text) → (get_or s i 0 == byte) ≡ true → (get_or t i 0 == byte) ≡ false → ¬ (s ≡ t)
-differ_at i byte s t a b e = true≢false (sym a ∙ ap (λ w. get_or w i 0 == byte) e ∙ b)
-
-no_lean : (t : Task) → ¬ (task_word t ≡ codes "lean")
-no_lean Canon e = differ_at 0 99 (codes "canon") (codes "lean") refl refl e
-no_lean HashTask e = differ_at 0 104 (codes "hash") (codes "lean") refl refl e
-no_lean Map e = differ_at 0 109 (codes "map") (codes "lean") refl refl e
-no_lean Ties e = differ_at 0 116 (codes "ties") (codes "lean") refl refl e
-
-no_load : (t : Task) → ¬ (task_word t ≡ codes "load")
-no_load Canon e = differ_at 0 99 (codes "canon") (codes "load") refl refl e
-no_load HashTask e = differ_at 0 104 (codes "hash") (codes "load") refl refl e
-no_load Map e = differ_at 0 109 (codes "map") (codes "load") refl refl e
-no_load Ties e = differ_at 0 116 (codes "ties") (codes "load") refl refl e
+-- no task's word begins with an `l`
+no_task : (t : Task) (word : Text) → (get_or word 0 0 == 108) ≡ true → ¬ (task_word t ≡ word)
+no_task t word l e = true≢false (sym l ∙ (ap (λ w. get_or w 0 0 == 108) (sym e) ∙ other t))
+  where
+    other : (t : Task) → (get_or (task_word t) 0 0 == 108) ≡ false
+    other Canon = refl
+    other HashTask = refl
+    other Map = refl
+    other Ties = refl
 
 lean_no_load : ¬ (codes "lean" ≡ codes "load")
-lean_no_load e = differ_at 1 101 (codes "lean") (codes "load") refl refl e
+lean_no_load e = true≢false (ap (λ w. get_or w 1 0 == 101) e)
 
 same_command : (c d : Command) → command_word c ≡ command_word d → operands c ≡ operands d → c ≡ d
 same_command (on_file s f) (on_file t g) w o =
@@ -65,13 +56,13 @@ same_command (compare f g) (compare h k) w o =
     let first = head_same f h (g ∷ []) (k ∷ []) o in
     let second = head_same g k [] [] (tail_same f h (g ∷ []) (k ∷ []) o) in
     λ i. compare (first i) (second i)
-same_command (on_file t f) (lean g) w o = absurd (no_lean t w)
-same_command (lean f) (on_file t g) w o = absurd (no_lean t (sym w))
+same_command (on_file t f) (lean g) w o = absurd (no_task t (codes "lean") refl w)
+same_command (lean f) (on_file t g) w o = absurd (no_task t (codes "lean") refl (sym w))
 same_command (compare f h) (lean g) w o = absurd (not_empty h [] (sym (tail_same f g (h ∷ []) [] o)))
 same_command (lean f) (compare g h) w o = absurd (not_empty h [] (tail_same f g [] (h ∷ []) o))
 same_command (lean f) (lean g) w o = ap lean (head_same f g [] [] o)
-same_command (on_file t f) (load n) w o = absurd (no_load t w)
-same_command (load n) (on_file t g) w o = absurd (no_load t (sym w))
+same_command (on_file t f) (load n) w o = absurd (no_task t (codes "load") refl w)
+same_command (load n) (on_file t g) w o = absurd (no_task t (codes "load") refl (sym w))
 same_command (compare f h) (load n) w o = absurd (not_empty h [] (sym (tail_same f (numeral n) (h ∷ []) [] o)))
 same_command (load n) (compare g h) w o = absurd (not_empty h [] (tail_same (numeral n) g [] (h ∷ []) o))
 same_command (lean f) (load n) w o = absurd (lean_no_load w)
@@ -140,12 +131,12 @@ options_taken (load n) given all =
 
 -- ---- a base is set for TriG alone
 
-base_there : (given : List Given) → ((iri : Text) → ¬ (In (base iri) given)) → given_base given ≡ None
+base_there : (given : List Given) → ((iri : Text) → ¬ (In (base iri) given)) → (chosen_by given).base ≡ None
 base_there [] none = refl
 base_there (base iri ∷ gs) none = absurd (none iri (inl refl))
 base_there (g ∷ gs) none = base_there gs (λ iri i. none iri (inr i))
 
-trig_there : (given : List Given) → given_trig given ≡ true → In as_trig given
+trig_there : (given : List Given) → (chosen_by given).trig ≡ true → In as_trig given
 trig_there [] e = absurd (true≢false (sym e))
 trig_there (as_trig ∷ gs) e = inl refl
 trig_there (g ∷ gs) e = inr (trig_there gs e)
@@ -154,9 +145,9 @@ fitting_base : (given : List Given) → ((iri : Text) → In (base iri) given �
 fitting_base given of_trig none = base_there given (λ iri i. name_there given as_trig none (In-map option_name given as_trig (of_trig iri i)))
 
 of_trig : (given : List Given) → HasFittingBase (chosen_by given) → (iri : Text) → In (base iri) given → In as_trig given
-of_trig given fits iri i = by (given_trig given) refl
+of_trig given fits iri i = by (chosen_by given).trig refl
   where
-    by : (b : Bool) → given_trig given ≡ b → In as_trig given
+    by : (b : Bool) → (chosen_by given).trig ≡ b → In as_trig given
     by true e = trig_there given e
     by false e = absurd (name_there given (base iri) (fits e) (In-map option_name given (base iri) i))
 
@@ -181,7 +172,8 @@ no_command-operands word more rest options a none c given k =
     none c (record { word_is = first_word word more c given k; operands_are = s.1; good = k.good_operands })
 
 -- the word and the operands spell the command alone, and it does not take an option that is there
-pub no_command-taken : (word : Text) (more rest : List Text) (options : Chosen) (c : Command) → AreOptions more options rest → IsSpelled word rest c → ¬ (AreTaken c options) → IsNoCommand (word ∷ more)
+pub no_command-taken : (word : Text) (more rest : List Text) (options : Chosen) (c : Command) → AreOptions more options rest → IsSpelled word rest c → ¬ (AreTaken c options)
+    → IsNoCommand (word ∷ more)
 no_command-taken word more rest options c a s none d given k =
     let b = options_of word more d given k in
     let same = same_options a.given given rest (operands d) a.no_more (operands_no_option d k.good_operands) (sym a.begins.spelled ∙ b.spelled) in
@@ -191,7 +183,8 @@ no_command-taken word more rest options c a s none d given k =
     none (subst (AreTaken c) (sym a.chosen_is) here)
 
 -- a base is there, and files are not in TriG
-pub no_command-base : (word : Text) (more rest : List Text) (options : Chosen) (c : Command) → AreOptions more options rest → IsSpelled word rest c → ¬ (HasFittingBase options) → IsNoCommand (word ∷ more)
+pub no_command-base : (word : Text) (more rest : List Text) (options : Chosen) (c : Command) → AreOptions more options rest → IsSpelled word rest c → ¬ (HasFittingBase options)
+    → IsNoCommand (word ∷ more)
 no_command-base word more rest options c a s none d given k =
     let b = options_of word more d given k in
     let same = same_options a.given given rest (operands d) a.no_more (operands_no_option d k.good_operands) (sym a.begins.spelled ∙ b.spelled) in
@@ -199,7 +192,8 @@ no_command-base word more rest options c a s none d given k =
 
 -- ---- words that are one
 
-pub command-of_parts : (word : Text) (more rest : List Text) (options : Chosen) (c : Command) (a : AreOptions more options rest) → IsSpelled word rest c → HasFittingBase options → AreTaken c options → IsCommand (word ∷ more) c a.given
+pub command-of_parts : (word : Text) (more rest : List Text) (options : Chosen) (c : Command) (a : AreOptions more options rest) → IsSpelled word rest c → HasFittingBase options → AreTaken c options
+    → IsCommand (word ∷ more) c a.given
 command-of_parts word more rest options c a s fits t = record {
   spelled = λ i. s.word_is i ∷ (a.begins.spelled ∙ ap (λ ws. flat_map spelled_option a.given ++ ws) s.operands_are) i;
   once = a.begins.once;
@@ -219,7 +213,8 @@ same_command_of_words (word ∷ more) c d given other k l =
     (same_command d c (sym (first_word word more d other l) ∙ first_word word more c given k) (sym s.1), s.0)
 
 -- what holds of the request that was read holds of whatever command the words spell
-pub of_request : (words : List Text) (request : Request) (P : Command → Settings → Syntax → Type 0) → IsRequest words request → P (command_of request.command) request.settings (syntax_of request.syntax)
+pub of_request : (words : List Text) (request : Request) (P : Command → Settings → Syntax → Type 0) → IsRequest words request
+    → P (command_of request.command) request.settings (syntax_of request.syntax)
     → (c : Command) (given : List Given) → IsCommand words c given → P c (settings_in given) (syntax_in given)
 of_request words request P r p c given k =
     let s = same_command_of_words words (command_of request.command) c r.options given r.is_command k in
@@ -227,15 +222,15 @@ of_request words request P r p c given k =
     let there : P (command_of request.command) (settings_in r.options) (syntax_in r.options) = subst (P (command_of request.command) (settings_in r.options)) r.syntax_is here in
     subst (λ d. P d (settings_in given) (syntax_in given)) (sym s.0) (subst (λ o. P (command_of request.command) (settings_in o) (syntax_in o)) (sym s.1) there)
 
-good_base : (given : List Given) → ((g : Given) → In g given → HasGoodValue g) → IfSome (given_base given) IsBase
+good_base : (given : List Given) → ((g : Given) → In g given → HasGoodValue g) → IfSome (chosen_by given).base IsBase
 good_base [] good = tt
 good_base (base iri ∷ gs) good = good (base iri) (inl refl)
 good_base (g ∷ gs) good = good_base gs (λ h i. good h (inr i))
 
 -- the base of a request is one
 pub good_base_of_request : (words : List Text) (request : Request) → IsRequest words request → HasGoodBase (syntax_of request.syntax)
-good_base_of_request words request r = subst HasGoodBase (sym r.syntax_is) (by (given_trig r.options))
+good_base_of_request words request r = subst HasGoodBase (sym r.syntax_is) (by (chosen_by r.options).trig)
   where
-    by : (b : Bool) → HasGoodBase (if b then trig (given_base r.options) else nquads)
+    by : (b : Bool) → HasGoodBase (if b then trig (chosen_by r.options).base else nquads)
     by true = good_base r.options r.is_command.good_values
     by false = tt

@@ -2,8 +2,7 @@
 use Rattle.std.proofs.Common.{◌≡◌, ℕ, zero, suc, ◌+◌, ◌-◌, ◌*◌, ◌/◌, ◌%◌, ◌^◌, ◌<◌, ◌≤◌, List, [], ◌∷◌, ◌++◌, length, drop, slice_set, refl, sym, ap, ◌∙◌, subst, append_assoc, arith}
 use Rattle.std.proofs.Math.Nat.{pow-suc}
 use Rattle.std.proofs.lemmas.Grind.{drop-set_at}
-use Rattle.rdf_terms.specs.Numeral.{numeral}
-use Rattle.rdf_terms.proofs.Numerals.{numeral-digit, numeral-step}
+use Rattle.rdf_terms.proofs.Common.{numeral, numeral-digit, numeral-step}
 
 -- there is room in front for the digits that are left
 pub room : (rest start : ℕ) → 9 < rest → rest < 10 ^ (start + 1) → 0 < start

@@ -1,9 +1,7 @@
 -- What the answer of a run says of `canon`, and of files that are accepted.
 use Rattle.std.proofs.Common.{◌≡◌, ℕ, ◌<◌, ◌≤◌, List, length, Option, Some, None, IfSome, ◌⊎◌, inl, inr, refl, sym, ap, ◌∙◌, subst, arith}
 use Rattle.std.specs.Io.KnownBytes.{Appends}
-use Rattle.rdf_terms.specs.Lists.{Text, permutes_trans}
-use Rattle.rdf_terms.proofs.Permutations.{Permutes-sym, Permutes-from_equal}
-use Rattle.rdf_terms.specs.Terms.{Statement}
+use Rattle.rdf_terms.proofs.Common.{Text, permutes_trans, Permutes-sym, Permutes-from_equal, Statement}
 use Rattle.rdf_terms.specs.declared.term.Label.{Label}
 use Rattle.nquads_reader.specs.Document.{IsCauseOf as IsLineCauseOf}
 use Rattle.nquads_reader.specs.declared.TheConstants.{MAX_QUADS}
@@ -35,7 +33,8 @@ use Rattle.rdfc_cli.specs.declared.status.Cause.TheVariants.{TooLong, NotUtf8, B
 
 -- ---- what a file is read as
 
-same_documents : (syntax : Syntax) (bytes : Text) (labels others : List Label) (one other : List Statement) → IsDocumentIn syntax bytes labels one → IsDocumentIn syntax bytes others other → (labels ≡ others) × (one ≡ other)
+same_documents : (syntax : Syntax) (bytes : Text) (labels others : List Label) (one other : List Statement) → IsDocumentIn syntax bytes labels one → IsDocumentIn syntax bytes others other
+    → (labels ≡ others) × (one ≡ other)
 same_documents nquads bytes labels others one other x y = AreRead-same (lines_of bytes) labels others one other x y
 same_documents (trig base) bytes labels others one other x y = same_document bytes base labels others one other x y
 
@@ -104,7 +103,8 @@ token_fault bytes base TooManyQuads h = record { fault = TooManyTriGQuads; holds
 token_fault bytes base cause h = absurd h
 
 -- each cause but that of length is one of the reader, of bytes within the limit
-by_reader : (syntax : Syntax) (bytes : Text) (cause : Cause) → IsCause syntax bytes cause → ((FILE_LIMIT < length bytes) × (cause ≡ TooLong)) ⊎ ((length bytes ≤ FILE_LIMIT) × IsReaderCause syntax bytes cause)
+by_reader : (syntax : Syntax) (bytes : Text) (cause : Cause) → IsCause syntax bytes cause
+    → ((FILE_LIMIT < length bytes) × (cause ≡ TooLong)) ⊎ ((length bytes ≤ FILE_LIMIT) × IsReaderCause syntax bytes cause)
 by_reader syntax bytes TooLong h = inl (h, refl)
 by_reader syntax bytes cause h = inr h
 
@@ -123,7 +123,8 @@ one_cause syntax bytes cause other h k = by (by_reader syntax bytes cause h) (by
     by (inr a) (inl b) = absurd (not_both (length bytes) FILE_LIMIT b.0 a.0)
     by (inr a) (inr b) = one_reader_cause syntax bytes cause other a.1 b.1
 
-no_reader_cause : (syntax : Syntax) (bytes : Text) (labels : List Label) (stated : List Statement) → IsDocumentIn syntax bytes labels stated → length stated ≤ MAX_QUADS → (cause : Cause) → ¬ (IsReaderCause syntax bytes cause)
+no_reader_cause : (syntax : Syntax) (bytes : Text) (labels : List Label) (stated : List Statement) → IsDocumentIn syntax bytes labels stated → length stated ≤ MAX_QUADS → (cause : Cause)
+    → ¬ (IsReaderCause syntax bytes cause)
 no_reader_cause nquads bytes labels stated reads few cause h = (let f = line_fault bytes cause h in f.wanted (no_line_cause bytes labels stated reads few f.fault f.holds))
 no_reader_cause (trig base) bytes labels stated reads few cause h = (let f = token_fault bytes base cause h in f.wanted (no_token_cause bytes base labels stated reads few f.fault f.holds))
 
@@ -146,12 +147,15 @@ module _ {K : Type 0} (taken : K → Option Text) (faults : K → ℕ) where
     accepts : Accepts syntax bytes content
     run : IsRunText settings found (λ ρ. IsOutputOf ρ content.dataset) content.dataset text
 
-  canon_text : (syntax : Syntax) (bytes : Text) (settings : Settings) (found : Option Tie) (text word : Text) (file : Text → FileSeen) → (file word).syntax ≡ syntax → (file word).told ≡ Some bytes → IsWritten file (on_file Canon word) settings found text → IsCanonText syntax bytes settings found text
+  canon_text : (syntax : Syntax) (bytes : Text) (settings : Settings) (found : Option Tie) (text word : Text) (file : Text → FileSeen) → (file word).syntax ≡ syntax → (file word).told ≡ Some bytes
+      → IsWritten file (on_file Canon word) settings found text → IsCanonText syntax bytes settings found text
   canon_text syntax bytes settings found text word file i e w =
-      let f = of_told (file word).told bytes (λ bytes. (content : Content) × Accepts (file word).syntax bytes content × IsRunText settings found (λ ρ. IsOutputOf ρ content.dataset) content.dataset text) e w in
+      let f = of_told (file word).told bytes (λ bytes. (content : Content) × Accepts (file word).syntax bytes content
+      × IsRunText settings found (λ ρ. IsOutputOf ρ content.dataset) content.dataset text) e w in
       record { content = f.0; accepts = subst (λ x. Accepts x bytes f.0) i f.1; run = f.2 }
 
-  writes : (old new : K) (syntax : Syntax) (bytes : Text) (settings : Settings) (found : Option Tie) (text : Text) → Appends (taken old) (taken new) text → (t : IsCanonText syntax bytes settings found text) → Writes taken faults old new syntax bytes settings t.content.dataset text
+  writes : (old new : K) (syntax : Syntax) (bytes : Text) (settings : Settings) (found : Option Tie) (text : Text) → Appends (taken old) (taken new) text
+      → (t : IsCanonText syntax bytes settings found text) → Writes taken faults old new syntax bytes settings t.content.dataset text
   writes old new syntax bytes settings found text grown t = record {
     grown = grown;
     allowed = t.run.is_text.allowed;
@@ -159,7 +163,8 @@ module _ {K : Type 0} (taken : K → Option Text) (faults : K → ℕ) where
     within = λ other accepts. subst (λ n. n ≤ settings.limit) (sym (same_units (hashing_of settings) syntax bytes t.content other t.accepts accepts)) t.run.within;
   }
 
-  done : (syntax : Syntax) (bytes : Text) (settings : Settings) (old new : K) → IsAnswered taken faults Canon syntax bytes settings old new Done → IsOneOutput taken faults old new syntax bytes settings
+  done : (syntax : Syntax) (bytes : Text) (settings : Settings) (old new : K) → IsAnswered taken faults Canon syntax bytes settings old new Done
+      → IsOneOutput taken faults old new syntax bytes settings
   done syntax bytes settings old new a =
       let t = canon_text syntax bytes settings None a.answers.0 a.word a.file a.written_in a.told a.answers.2 in
       record {
@@ -170,7 +175,8 @@ module _ {K : Type 0} (taken : K → Option Text) (faults : K → ℕ) where
         only = λ E isomorphic other allowed. subst (λ w. other ≡ w) (sym t.run.is_text.chosen) (t.run.finds.only E isomorphic other allowed);
       }
 
-  unsettled : (syntax : Syntax) (bytes : Text) (settings : Settings) (old new : K) (tie : Tie) → IsAnswered taken faults Canon syntax bytes settings old new (Unsettled tie) → HasUnsettledTie taken faults old new syntax bytes settings tie
+  unsettled : (syntax : Syntax) (bytes : Text) (settings : Settings) (old new : K) (tie : Tie) → IsAnswered taken faults Canon syntax bytes settings old new (Unsettled tie)
+      → HasUnsettledTie taken faults old new syntax bytes settings tie
   unsettled syntax bytes settings old new tie a =
       let t = canon_text syntax bytes settings (Some tie) a.answers.0 a.word a.file a.written_in a.told a.answers.2 in
       record {
@@ -183,10 +189,12 @@ module _ {K : Type 0} (taken : K → Option Text) (faults : K → ℕ) where
         not_carried = t.run.finds.not_carried;
       }
 
-  work_limit : (syntax : Syntax) (bytes : Text) (settings : Settings) (old new : K) (place limit : ℕ) → IsAnswered taken faults Canon syntax bytes settings old new (WorkLimit place limit) → IsPastUnits taken faults old new syntax bytes settings limit
+  work_limit : (syntax : Syntax) (bytes : Text) (settings : Settings) (old new : K) (place limit : ℕ) → IsAnswered taken faults Canon syntax bytes settings old new (WorkLimit place limit)
+      → IsPastUnits taken faults old new syntax bytes settings limit
   work_limit syntax bytes settings old new place limit a =
       let s = a.answers.1 in
-      let f = of_told (a.file a.word).told bytes (λ bytes. (content : Content) × Accepts (a.file a.word).syntax bytes content × (settings.limit < units_of (hashing_of settings) content.dataset)) a.told s.1.1 in
+      let f = of_told (a.file a.word).told bytes (λ bytes. (content : Content) × Accepts (a.file a.word).syntax bytes content
+      × (settings.limit < units_of (hashing_of settings) content.dataset)) a.told s.1.1 in
       let accepted = subst (λ x. Accepts x bytes f.0) a.written_in f.1 in
       record {
         untouched = a.answers.0;
@@ -209,12 +217,15 @@ module _ {K : Type 0} (taken : K → Option Text) (faults : K → ℕ) where
   is_complete file task word bytes settings old new (Refused refusal) p a = elim a.1 [ inl r ↦ refused_never r.1 | inr r ↦ r.2 ]
     where
       refused_never : IfSome (file word).told (λ bytes. IsCause (file word).syntax bytes refusal.cause) → ⊥
-      refused_never r = no_cause_if_accepted (file word).syntax bytes p.content refusal.cause p.accepts (of_told (file word).told bytes (λ bytes. IsCause (file word).syntax bytes refusal.cause) p.told r)
+      refused_never r =
+          no_cause_if_accepted (file word).syntax bytes p.content refusal.cause p.accepts (of_told (file word).told bytes (λ bytes. IsCause (file word).syntax bytes refusal.cause) p.told r)
   is_complete file task word bytes settings old new (ReadFault place) p a = p.no_read_failed a.1.1
   is_complete file task word bytes settings old new WriteFault p a = p.no_put_failed a.0
   is_complete file task word bytes settings old new (WorkLimit place limit) p a =
-      let f = of_told (file word).told bytes (λ bytes. (content : Content) × Accepts (file word).syntax bytes content × (settings.limit < units_of (hashing_of settings) content.dataset)) p.told a.1.1.1 in
-      not_both (units_of (hashing_of settings) p.content.dataset) settings.limit (subst (λ n. settings.limit < n) (same_units (hashing_of settings) (file word).syntax bytes p.content f.0 p.accepts f.1) f.2) p.within
+      let f = of_told (file word).told bytes (λ bytes. (content : Content) × Accepts (file word).syntax bytes content
+      × (settings.limit < units_of (hashing_of settings) content.dataset)) p.told a.1.1.1 in
+      not_both (units_of (hashing_of settings) p.content.dataset) settings.limit (subst (λ n. settings.limit < n)
+      (same_units (hashing_of settings) (file word).syntax bytes p.content f.0 p.accepts f.1) f.2) p.within
   is_complete file task word bytes settings old new NoMemory p a = tt
   is_complete file task word bytes settings old new (Undecided s t) p a = absurd a.1
   is_complete file task word bytes settings old new (SearchLimit limit image) p a = absurd a.1.1

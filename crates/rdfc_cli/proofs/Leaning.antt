@@ -2,13 +2,10 @@
 use Rattle.std.proofs.Common.{◌≡◌, ℕ, ◌+◌, List, [], ◌++◌, All, length, map, Option, Some, None, IsSome, refl, sym, ap, ◌∙◌, subst, add-one, true≢false}
 use Rattle.std.specs.Prelude.{flat_map}
 use Rattle.std.proofs.lemmas.List.{flat_map_more}
-use Rattle.rdf_terms.specs.Lists.{Text, joined, sorted, numbers_below}
-use Rattle.rdf_terms.specs.CanonicalForm.{canonical_line}
-use Rattle.rdf_terms.specs.Document.{Document, IsInRange, dataset, statement, statements, term_at, graph_name_at}
+use Rattle.rdf_terms.proofs.Common.{Text, joined, sorted, numbers_below, canonical_line, Document, IsInRange, dataset, statement, statements, term_at, graph_name_at, In-map, In-at, All-from_each, each-from_All}
 use Rattle.rdf_terms.specs.declared.term.Term.{Term}
 use Rattle.rdf_terms.specs.declared.term.Term.TheVariants.{Iri, Blank, Literal}
 use Rattle.rdf_terms.specs.declared.term.Quad.{Quad}
-use Rattle.rdf_terms.proofs.Membership.{In-map, In-at}
 use Rattle.canonical_writer.specs.Names.{naming_of, HasNames, IsNamed, numbered_name}
 use Rattle.canonical_writer.proofs.NamedNodes.{has_numbered_names}
 use Rattle.lean_search.specs.Lean.{IsLeanForm, IsLeanStop, IsFirstNamed, map_by, triples_of}
@@ -19,7 +16,6 @@ use Rattle.rdfc_cli.specs.Leaning.{IsLeanImage, IsLeanText, IsLeanMapText, HasGr
 use Rattle.rdfc_cli.specs.Outputs.{IsLeanEnd, EndsAs}
 use Rattle.rdfc_cli.specs.declared.options.Settings.{Settings}
 use Rattle.rdfc_cli.specs.declared.status.Status.{Status}
-use Rattle.rdf_terms.proofs.MadeLists.{All-from_each, each-from_All}
 
 -- ---- the lean graph
 

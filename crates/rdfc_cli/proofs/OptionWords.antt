@@ -2,10 +2,7 @@
 use Rattle.std.proofs.Common.{◌≡◌, ℕ, suc, true≢false, List, [], ◌∷◌, ◌++◌, Some, None, Option, IfNone, map, inl, inr, get_or, drop, length, if◌then◌else◌, ◌==◌, refl, sym, ap, ◌∙◌, subst, append_assoc, append-nil, arith}
 use Rattle.std.specs.Prelude.{flat_map}
 use Rattle.std.proofs.lemmas.List.{map-append}
-use Rattle.rdf_terms.specs.Lists.{Text, In, AreDistinct}
-use Rattle.rdf_terms.proofs.Membership.{AreDistinct-push, In-append, In-append_right, In-map}
-use Rattle.rdf_terms.specs.Numeral.{numeral}
-use Rattle.rdf_terms.proofs.Numerals.{numeral-injective}
+use Rattle.rdf_terms.proofs.Common.{Text, In, AreDistinct, AreDistinct-push, In-append, In-append_right, In-map, numeral, numeral-injective}
 use Rattle.canon_model.specs.declared.profile.HashKind.{HashKind}
 use Rattle.canon_model.specs.declared.profile.HashKind.TheVariants.{Sha256, Sha384}
 use Rattle.canon_model.specs.declared.profile.Related.{Related as Reading}
@@ -80,7 +77,8 @@ related_word-injective m n e = sym (reading_of_word m) ∙ ap reading_at (at_pla
 same_behind : (g h : Given) (words more : List Text) → option_name g ≡ option_name h → option_value g ++ words ≡ option_value h ++ more → (g ≡ h) × (words ≡ more)
 same_behind (limit m) (limit n) words more e b = (ap limit (numeral-injective m n (head_same (numeral m) (numeral n) words more b)), tail_same (numeral m) (numeral n) words more b)
 same_behind (hash k) (hash l) words more e b = (ap hash (hash_word-injective k l (head_same (hash_word k) (hash_word l) words more b)), tail_same (hash_word k) (hash_word l) words more b)
-same_behind (related r) (related s) words more e b = (ap related (related_word-injective r s (head_same (related_word r) (related_word s) words more b)), tail_same (related_word r) (related_word s) words more b)
+same_behind (related r) (related s) words more e b =
+    (ap related (related_word-injective r s (head_same (related_word r) (related_word s) words more b)), tail_same (related_word r) (related_word s) words more b)
 same_behind as_map as_map words more e b = (refl, b)
 same_behind as_trig as_trig words more e b = (refl, b)
 same_behind (base i) (base j) words more e b = (ap base (head_same i j words more b), tail_same i j words more b)
@@ -141,11 +139,7 @@ name_there (h ∷ gs) g new (inr i) = name_there gs g new i
 
 pub new_name : (given : List Given) (g : Given) → ¬ (In (option_name g) (map option_name given)) → IsNew (chosen_by given) g
 new_name [] (limit n) none = refl
-new_name [] (hash k) none = refl
-new_name [] (related r) none = refl
-new_name [] as_map none = refl
-new_name [] as_trig none = refl
-new_name [] (base i) none = refl
+new_name [] g none = refl
 new_name (limit m ∷ gs) (limit n) none = absurd (none (inl refl))
 new_name (hash l ∷ gs) (hash k) none = absurd (none (inl refl))
 new_name (related s ∷ gs) (related r) none = absurd (none (inl refl))
@@ -157,11 +151,7 @@ new_name (h ∷ gs) g none = new_name gs g (λ i. none (inr i))
 -- what a new option adds to those before it
 chosen_by-push : (given : List Given) (g : Given) → IsNew (chosen_by given) g → chosen_by (given ++ g ∷ []) ≡ with_option (chosen_by given) g
 chosen_by-push [] (limit n) new = refl
-chosen_by-push [] (hash k) new = refl
-chosen_by-push [] (related r) new = refl
-chosen_by-push [] as_map new = refl
-chosen_by-push [] as_trig new = refl
-chosen_by-push [] (base i) new = refl
+chosen_by-push [] g new = refl
 chosen_by-push (limit m ∷ gs) (limit n) new = cc
 chosen_by-push (hash l ∷ gs) (hash k) new = cc
 chosen_by-push (related s ∷ gs) (related r) new = cc

@@ -3,11 +3,9 @@ use Rattle.std.proofs.Common.{◌≡◌, ℕ, ◌+◌, ◌<◌, ◌++◌, List, 
 use Rattle.std.proofs.lemmas.List.{flat_map_more, get_or_default, take_more}
 use Rattle.std.proofs.lemmas.Option.{get_or_from_slice_get}
 use Rattle.std.specs.Prelude.{flat_map}
-use Rattle.rdf_terms.specs.Lists.{Text, In, numbers_below}
-use Rattle.rdf_terms.specs.Dataset.{Dataset}
+use Rattle.rdf_terms.proofs.Common.{Text, In, numbers_below, Dataset, from_In-map, from_In-numbers_below}
 use Rattle.rdf_terms.specs.declared.term.Label.{Label}
 use Rattle.rdf_terms.specs.declared.term.Label.TheVariants.{Anonymous}
-use Rattle.rdf_terms.proofs.Membership.{from_In-map}
 use Rattle.iso_compare.specs.Comparison.{IsBijection, IsVerdict}
 use Rattle.iso_compare.specs.declared.verdict.Verdict.{Verdict}
 use Rattle.iso_compare.specs.declared.verdict.Verdict.TheVariants.{Same, Different as DifferentVerdict, Undecided as UndecidedVerdict}
@@ -22,7 +20,6 @@ use Rattle.rdfc_cli.specs.declared.options.Settings.{Settings}
 use Rattle.rdfc_cli.specs.declared.output.Output.{Output}
 use Rattle.rdfc_cli.specs.declared.status.Status.{Status}
 use Rattle.rdfc_cli.specs.declared.status.Status.TheVariants.{Done, Different, Usage, Unsettled, Refused, ReadFault, WriteFault, WorkLimit, SearchLimit, NoMemory, Undecided}
-use Rattle.rdf_terms.proofs.Ranks.{from_In-numbers_below}
 
 -- ---- pairs
 
@@ -30,7 +27,8 @@ pairs_text-map : (labels others : List Label) (σ : ℕ → ℕ) (ns : List ℕ)
 pairs_text-map labels others σ [] = refl
 pairs_text-map labels others σ (n ∷ ns) = ap (λ t. partner_line labels others σ n ++ t) (pairs_text-map labels others σ ns)
 
-partner_text-pairs : (labels others : List Label) (D E : Dataset) (pairs : List (ℕ × ℕ)) (b : IsBijection D E pairs) → pairs_text labels others pairs ≡ partner_text labels others b.relabelling.to D.nodes
+partner_text-pairs : (labels others : List Label) (D E : Dataset) (pairs : List (ℕ × ℕ)) (b : IsBijection D E pairs)
+    → pairs_text labels others pairs ≡ partner_text labels others b.relabelling.to D.nodes
 unfolding partner_text
 partner_text-pairs labels others D E pairs b = ap (pairs_text labels others) b.pairs_are ∙ pairs_text-map labels others b.relabelling.to (numbers_below D.nodes)
 
@@ -47,7 +45,8 @@ label_in-get_or : (labels : List Label) (n : ℕ) (label : Label) → n < length
 label_in-get_or labels n label h e = ap label_text (e ∙ get_or_default labels n label (Anonymous 0) h)
 
 -- the line of one pair more
-pub one_more_pair : (labels others : List Label) (pairs : List (ℕ × ℕ)) (i : ℕ) (p : ℕ × ℕ) (a b : Label) (out new : Text) → i < length pairs → p ≡ get_or pairs i p → p.0 < length labels → p.1 < length others → a ≡ get_or labels p.0 a → b ≡ get_or others p.1 b
+pub one_more_pair : (labels others : List Label) (pairs : List (ℕ × ℕ)) (i : ℕ) (p : ℕ × ℕ) (a b : Label) (out new : Text) → i < length pairs → p ≡ get_or pairs i p → p.0 < length labels
+    → p.1 < length others → a ≡ get_or labels p.0 a → b ≡ get_or others p.1 b
     → out ≡ pairs_text labels others (take i pairs) → new ≡ out ++ (label_text a ++ (codes " " ++ (label_text b ++ codes "\n"))) → new ≡ pairs_text labels others (take (i + 1) pairs)
 one_more_pair labels others pairs i p a b out new h e m n f g so_far k =
     let line : label_text a ++ (codes " " ++ (label_text b ++ codes "\n")) ≡ pair_line labels others p =
@@ -57,12 +56,14 @@ one_more_pair labels others pairs i p a b out new h e m n f g so_far k =
 
 -- ---- verdicts
 
-pub nodes_below : (content other : Content) (settings : Settings) (verdict : Verdict) → IsVerdict (hashing_of settings) content.dataset other.dataset verdict → HasNodesBelow content.dataset.nodes other.dataset.nodes verdict
+pub nodes_below : (content other : Content) (settings : Settings) (verdict : Verdict) → IsVerdict (hashing_of settings) content.dataset other.dataset verdict
+    → HasNodesBelow content.dataset.nodes other.dataset.nodes verdict
 nodes_below content other settings (Same map) v = pairs_below content.dataset other.dataset map.pairs v.bijection
 nodes_below content other settings DifferentVerdict v = tt
 nodes_below content other settings (UndecidedVerdict s t) v = tt
 
-module _ (settings : Settings) (content other : Content) (within : IsWithin settings content.dataset) (other_within : IsWithin settings other.dataset) (verdict : Verdict) (v : IsVerdict (hashing_of settings) content.dataset other.dataset verdict) where
+module _ (settings : Settings) (content other : Content) (within : IsWithin settings content.dataset) (other_within : IsWithin settings other.dataset) (verdict : Verdict)
+    (v : IsVerdict (hashing_of settings) content.dataset other.dataset verdict) where
   pub pair_output-of_verdict : (output : Output) → IsVerdictOutput content.labels other.labels verdict output → IsPairOutput settings content other output
   pair_output-of_verdict output o =
       let same = subst (IsVerdict (hashing_of settings) content.dataset other.dataset) o.verdict_is v in
@@ -95,7 +96,8 @@ module _ (settings : Settings) (content other : Content) (within : IsWithin sett
 
 -- ---- labels that are copied
 
-pub one_more_label : (labels so_far new : List Label) (n : ℕ) (label copy : Label) → n < length labels → slice_get labels n ≡ Some label → copy ≡ label → so_far ≡ take n labels → new ≡ so_far ++ copy ∷ [] → new ≡ take (n + 1) labels
+pub one_more_label : (labels so_far new : List Label) (n : ℕ) (label copy : Label) → n < length labels → slice_get labels n ≡ Some label → copy ≡ label → so_far ≡ take n labels
+    → new ≡ so_far ++ copy ∷ [] → new ≡ take (n + 1) labels
 one_more_label labels so_far new n label copy h e c s k =
     k ∙ (λ i. s i ++ (c ∙ sym (get_or_from_slice_get labels n label (Anonymous 0) e)) i ∷ []) ∙ sym (take_more labels n (Anonymous 0) h)
 
@@ -117,7 +119,8 @@ module _ (settings : Settings) (first second : Form) (content other : Content) (
   pub past-second : (canon : Canon) → first.canon ≡ Some canon → second.canon ≡ None → IsPairStop settings content other (WorkLimit 1 settings.limit)
   past-second canon e n = (refl, inr (refl, (canon_of first content canon f e).within, past_of second other g n))
 
-  module _ (canon others : Canon) (a : first.canon ≡ Some canon) (b : second.canon ≡ Some others) (verdict : Verdict) (v : (ρ : Hashing) (A B : Dataset) → IsCanon ρ A canon → IsCanon ρ B others → IsVerdict ρ A B verdict) where
+  module _ (canon others : Canon) (a : first.canon ≡ Some canon) (b : second.canon ≡ Some others) (verdict : Verdict)
+      (v : (ρ : Hashing) (A B : Dataset) → IsCanon ρ A canon → IsCanon ρ B others → IsVerdict ρ A B verdict) where
     one : IsCanonWithin settings content.dataset canon
     one = canon_of first content canon f a
 
@@ -128,7 +131,9 @@ module _ (settings : Settings) (first second : Form) (content other : Content) (
     verdict_is = v (hashing_of settings) content.dataset other.dataset one.canon_is two.canon_is
 
     pub forms-nodes_below : HasNodesBelow (length first.labels.items) (length second.labels.items) verdict
-    forms-nodes_below = subst (λ m. HasNodesBelow m (length second.labels.items) verdict) (nodes_of first content f) (subst (λ n. HasNodesBelow content.dataset.nodes n verdict) (nodes_of second other g) (nodes_below content other settings verdict verdict_is))
+    forms-nodes_below =
+        subst (λ m. HasNodesBelow m (length second.labels.items) verdict) (nodes_of first content f)
+        (subst (λ n. HasNodesBelow content.dataset.nodes n verdict) (nodes_of second other g) (nodes_below content other settings verdict verdict_is))
 
     pub forms-output : (output : Output) → IsVerdictOutput first.labels.items second.labels.items verdict output → IsPairOutput settings content other output
     forms-output output o =

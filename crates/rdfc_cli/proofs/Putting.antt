@@ -36,7 +36,8 @@ IsCutShort-behind before between now front bytes a c = record {
   appends = Appends-trans before between now front c.front a c.appends;
 }
 
-pub Puts-behind : {T E : Type 0} (before between now : Option (List ℕ)) (r : Result T E) (front bytes : List ℕ) → Appends before between front → Puts between now r bytes → Puts before now r (front ++ bytes)
+pub Puts-behind : {T E : Type 0} (before between now : Option (List ℕ)) (r : Result T E) (front bytes : List ℕ) → Appends before between front → Puts between now r bytes
+    → Puts before now r (front ++ bytes)
 Puts-behind before between now (Ok x) front bytes a p = Appends-trans before between now front bytes a p
 Puts-behind before between now (Err e) front bytes a p = IsCutShort-behind before between now front bytes a p
 

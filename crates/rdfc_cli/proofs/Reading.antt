@@ -54,7 +54,8 @@ module _ {I : Type 0} (Holds : I → List ℕ → Type 0) where
     counted = n ∙ ap (λ k. k + length piece) fed.counted ∙ sym (length-append fed.bytes piece);
   }
 
-  pub fed_whole : (told rest left : Option (List ℕ)) (intake : I) (total : ℕ) (piece : List ℕ) → HasFed told rest intake total → Consumes rest left piece → length piece ≡ 0 → IsAtEnd left → total ≤ FILE_LIMIT → IsFed Holds told intake
+  pub fed_whole : (told rest left : Option (List ℕ)) (intake : I) (total : ℕ) (piece : List ℕ) → HasFed told rest intake total → Consumes rest left piece → length piece ≡ 0 → IsAtEnd left
+      → total ≤ FILE_LIMIT → IsFed Holds told intake
   fed_whole told rest left intake total piece fed consumed none at_end within = record {
     bytes = fed.bytes;
     whole = ended told rest left fed.bytes piece fed.consumed consumed none at_end;
@@ -68,7 +69,8 @@ if_told : (told : Option (List ℕ)) (bytes : List ℕ) (P : List ℕ → Type 0
 if_told None bytes P h p = tt
 if_told (Some all) bytes P h p = subst P h p
 
-pub ok_as_told : {T E : Type 0} (told : Option (List ℕ)) (bytes : List ℕ) (P : List ℕ → T → Type 0) → IfSome told (λ all. bytes ≡ all) → (r : Result T E) → IfOk r (P bytes) → IfOk r (λ x. IfSome told (λ all. P all x))
+pub ok_as_told : {T E : Type 0} (told : Option (List ℕ)) (bytes : List ℕ) (P : List ℕ → T → Type 0) → IfSome told (λ all. bytes ≡ all) → (r : Result T E) → IfOk r (P bytes)
+    → IfOk r (λ x. IfSome told (λ all. P all x))
 ok_as_told told bytes P whole (Ok x) h = if_told told bytes (λ all. P all x) whole h
 ok_as_told told bytes P whole (Err e) h = tt
 
@@ -81,7 +83,8 @@ fault_as_told file bytes whole (Err NoMemory) h = tt
 
 -- a dataset of a document that is stated, as far as it is told
 pub accepted_as_told : (told : Option (List ℕ)) (syntax : Syntax) (parsed : Document) (r : Result Document FileFault) → IfSome told (λ bytes. States syntax bytes parsed.labels (statements parsed))
-    → ((bytes : List ℕ) → States syntax bytes parsed.labels (statements parsed) → IfOk r (λ d. Accepts syntax bytes (content_of d))) → IfOk r (λ d. IfSome told (λ bytes. Accepts syntax bytes (content_of d)))
+    → ((bytes : List ℕ) → States syntax bytes parsed.labels (statements parsed) → IfOk r (λ d. Accepts syntax bytes (content_of d)))
+    → IfOk r (λ d. IfSome told (λ bytes. Accepts syntax bytes (content_of d)))
 accepted_as_told told syntax parsed (Err e) stated accepts = tt
 accepted_as_told None syntax parsed (Ok d) stated accepts = tt
 accepted_as_told (Some bytes) syntax parsed (Ok d) stated accepts = accepts bytes stated

@@ -3,11 +3,7 @@ use Rattle.std.proofs.Common.{◌≡◌, ℕ, ◌+◌, ◌<◌, List, ◌++◌, 
 use Rattle.std.specs.Prelude.{flat_map}
 use Rattle.std.proofs.lemmas.List.{take_more, flat_map_more}
 use Rattle.std.proofs.lemmas.Option.{get_or_from_slice_get}
-use Rattle.rdf_terms.specs.Lists.{Text, AreDistinct}
-use Rattle.rdf_terms.specs.Numeral.{numeral}
-use Rattle.rdf_terms.specs.Dataset.{Dataset}
-use Rattle.rdf_terms.specs.Document.{Document, dataset}
-use Rattle.rdf_terms.specs.CanonicalForm.{identifier_at, name_or_nothing}
+use Rattle.rdf_terms.proofs.Common.{Text, AreDistinct, numeral, Dataset, Document, dataset, identifier_at, name_or_nothing}
 use Rattle.rdf_terms.specs.declared.term.Prefix.TheVariants.{Canonical}
 use Rattle.rdf_terms.specs.declared.term.Label.{Label}
 use Rattle.rdf_terms.specs.declared.term.Label.TheVariants.{Anonymous}
@@ -44,7 +40,8 @@ finds-first : (ρ : Hashing) (D : Dataset) (bytes : Text) (found : Option Tie) �
 finds-first ρ D bytes None settled chosen only = record { settled = settled; only = subst (IsOnlyOutput ρ D) chosen (only settled) }
 finds-first ρ D bytes (Some tie) unsettled chosen only = unsettled
 
-pub run_text-of_run : (settings : Settings) (d : Document) (IsText : Hashing → Text → Type 0) (canon : Canon) (output : Output) → IsCanon (hashing_of settings) (dataset d) canon → canon.profile ≡ settings.profile → IsWithinLimit (hashing_of settings) (dataset d) settings.limit
+pub run_text-of_run : (settings : Settings) (d : Document) (IsText : Hashing → Text → Type 0) (canon : Canon) (output : Output) → IsCanon (hashing_of settings) (dataset d) canon
+    → canon.profile ≡ settings.profile → IsWithinLimit (hashing_of settings) (dataset d) settings.limit
     → IsText (meaning canon.profile) output.text → output.unsettled ≡ canon.unsettled → IsRunText settings output.unsettled IsText (dataset d) output.text
 run_text-of_run settings d IsText canon output c profile within text unsettled = record {
   within = within;

@@ -1,7 +1,6 @@
 -- The lists of a tie hold nodes of the dataset.
 use Rattle.std.proofs.Common.{ℕ, ◌<◌, List, Option, Some, None, IfSome, inl, inr}
-use Rattle.rdf_terms.specs.Lists.{In}
-use Rattle.rdf_terms.specs.Dataset.{Dataset}
+use Rattle.rdf_terms.proofs.Common.{In, Dataset}
 use Rattle.canon_model.specs.Hashing.{Hashing}
 use Rattle.canon_model.specs.Ties.{AreTied}
 use Rattle.canon_core.specs.Canonical.{IsUnsettledBy, IsFirstUnsettled}

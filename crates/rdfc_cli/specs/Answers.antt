@@ -1,9 +1,7 @@
 -- What a run answers, what it writes and why: a relation between the files, the sink and the status.
 use Rattle.std.specs.Prelude.{◌≡◌, ℕ, ◌<◌, ◌≤◌, ◌⊎◌, List, length, Option, Some, None, IfSome}
 use Rattle.std.specs.Io.KnownBytes.{Appends}
-use Rattle.rdf_terms.specs.Lists.{Text, Permutes}
-use Rattle.rdf_terms.specs.Terms.{Statement}
-use Rattle.rdf_terms.specs.Dataset.{Dataset, IsValid}
+use Rattle.rdf_terms.specs.Vocabulary.{Text, Permutes, Statement, Dataset, IsValid}
 use Rattle.rdf_terms.specs.declared.term.Label.{Label}
 use Rattle.rdf_terms.specs.declared.term.Quad.{Quad}
 use Rattle.outside.specs.Faults.{Rose}
@@ -77,7 +75,8 @@ abbrev pub IsCause : Syntax → Text → Cause → Type 0
 IsCause syntax bytes TooLong = FILE_LIMIT < length bytes
 IsCause syntax bytes cause = (length bytes ≤ FILE_LIMIT) × IsReaderCause syntax bytes cause
 
--- the syntax that the file is read in, the file as it is told, and the count of failed calls with its word, before and after the run
+-- the syntax that the file is read in, the file as it is told, and the count of failed calls with its word, before and
+-- after the run
 pub record FileSeen : Type 0 where
   pub syntax : Syntax
   pub told : Option Text
@@ -86,11 +85,13 @@ pub record FileSeen : Type 0 where
 
 -- the file of this name on a shelf, by what the shelf tells and counts
 abbrev pub seen : {S : Type 0} → Syntax → (S → Text → Option Text) → (S → Text → ℕ) → S → S → Text → FileSeen
-seen syntax told faults old new name = record { syntax = syntax; told = told old name; faults = faults old name; faults_now = faults new name }
+seen syntax told faults old new name =
+    record { syntax = syntax; told = told old name; faults = faults old name; faults_now = faults new name }
 
 -- the file is accepted and this holds of what it says, as far as it is told
 abbrev pub IfAccepted : FileSeen → (Content → Type 0) → Type 0
-IfAccepted file Fact = IfSome file.told (λ bytes. (content : Content) × Accepts file.syntax bytes content × Fact content)
+IfAccepted file Fact =
+    IfSome file.told (λ bytes. (content : Content) × Accepts file.syntax bytes content × Fact content)
 
 -- the document of the number is accepted as the bytes of a file are, and this holds of what it says
 abbrev pub IfLoaded : ℕ → (Content → Type 0) → Type 0
@@ -128,12 +129,14 @@ Finds None ρ D = IsDone ρ D
 Finds (Some tie) ρ D = IsUnsettledBy ρ D tie
 
 -- the counted run of the dataset is within the limit and finds this, and the text is made from it
-pub record IsRunText (settings : Settings) (found : Option Tie) (IsText : Hashing → Text → Type 0) (D : Dataset) (text : Text) : Type 0 where
+pub record IsRunText (settings : Settings) (found : Option Tie) (IsText : Hashing → Text → Type 0) (D : Dataset)
+    (text : Text) : Type 0 where
   pub within : IsWithin settings D
   pub finds : Finds found (hashing_of settings) D
   pub is_text : IsText (hashing_of settings) text
 
--- the counted runs of both datasets are within the limit, and the text is that of a map that carries the one dataset to the other
+-- the counted runs of both datasets are within the limit, and the text is that of a map that carries the one dataset to
+-- the other
 pub record IsPairing (settings : Settings) (content other : Content) (text : Text) : Type 0 where
   pub within : IsWithin settings content.dataset
   pub other_within : IsWithin settings other.dataset
@@ -142,56 +145,64 @@ pub record IsPairing (settings : Settings) (content other : Content) (text : Tex
 
 -- ---- the whole text of a command
 
--- the text that the command writes, where its run finds this; a comparison has no tie to tell of where it writes, and `lean` has no run
+-- the text that the command writes, where its run finds this; a comparison has no tie to tell of where it writes, and
+-- `lean` has no run
 abbrev pub IsWritten : (Text → FileSeen) → Command → Settings → Option Tie → Text → Type 0
 IsWritten file (on_file task word) settings found text =
-    IfAccepted (file word) (λ content. IsRunText settings found (λ ρ. IsTextOf task ρ content.dataset content.labels) content.dataset text)
-IsWritten file (compare first second) settings found text = (found ≡ None) × AreBothAccepted (file first) (file second) (λ content other. IsPairing settings content other text)
-IsWritten file (lean word) settings found text = (found ≡ None) × IfAccepted (file word) (λ content. IsLeaning settings.map settings.limit content.dataset text)
-IsWritten file (load n) settings found text = IfLoaded n (λ content. IsRunText settings found (λ ρ. IsSummary ρ content.dataset) content.dataset text)
+    IfAccepted (file word) (λ content. IsRunText settings found
+    (λ ρ. IsTextOf task ρ content.dataset content.labels) content.dataset text)
+IsWritten file (compare first second) settings found text =
+    (found ≡ None) × AreBothAccepted (file first) (file second) (λ content other. IsPairing settings content other text)
+IsWritten file (lean word) settings found text =
+    (found ≡ None) × IfAccepted (file word) (λ content. IsLeaning settings.map settings.limit content.dataset text)
+IsWritten file (load n) settings found text =
+    IfLoaded n (λ content. IsRunText settings found (λ ρ. IsSummary ρ content.dataset) content.dataset text)
 
 -- ---- why nothing is written
 
--- the file at this place of the command has this; the second is read only where the first is accepted, and a document that is made is no file
+-- the file at this place of the command has this; the second is read only where the first is accepted, and a document
+-- that is made is no file
 abbrev pub IsOfFile : (Text → FileSeen) → Command → ℕ → (FileSeen → Type 0) → Type 0
 IsOfFile file (on_file task word) place Fact = (place ≡ 0) × Fact (file word)
-IsOfFile file (compare first second) place Fact = ((place ≡ 0) × Fact (file first)) ⊎ ((place ≡ 1) × IfAccepted (file first) (λ content. Unit {0}) × Fact (file second))
+IsOfFile file (compare first second) place Fact =
+    ((place ≡ 0) × Fact (file first)) ⊎ ((place ≡ 1) × IfAccepted (file first) (λ content. Unit {0})
+    × Fact (file second))
 IsOfFile file (lean word) place Fact = (place ≡ 0) × Fact (file word)
 IsOfFile file (load n) place Fact = ⊥
 
 -- the file of the command is accepted, and a quad of it has a graph name where the command wants none
 abbrev pub IsNoGraph : (Text → FileSeen) → Command → Type 0
-IsNoGraph file (on_file task word) = ⊥
-IsNoGraph file (compare first second) = ⊥
 IsNoGraph file (lean word) = IfAccepted (file word) (λ content. HasGraphName content.dataset.statements)
-IsNoGraph file (load n) = ⊥
+IsNoGraph file command = ⊥
 
 -- the file at this place is refused for what its bytes are, or for what the command wants of its dataset
 abbrev pub IsRefused : (Text → FileSeen) → Command → ℕ → Cause → Type 0
 IsRefused file command place cause =
-    IsOfFile file command place (λ seen. IfSome seen.told (λ bytes. IsCause seen.syntax bytes cause)) ⊎ ((cause ≡ NotOneGraph) × (place ≡ 0) × IsNoGraph file command)
+    IsOfFile file command place (λ seen. IfSome seen.told (λ bytes. IsCause seen.syntax bytes cause))
+    ⊎ ((cause ≡ NotOneGraph) × (place ≡ 0) × IsNoGraph file command)
 
 -- the first dataset of the command whose counted run passes the limit has this place
 abbrev pub IsPastLimit : (Text → FileSeen) → Command → Settings → ℕ → Type 0
-IsPastLimit file (on_file task word) settings place = (place ≡ 0) × IfAccepted (file word) (λ content. IsPast settings content.dataset)
-IsPastLimit file (compare first second) settings place = AreBothAccepted (file first) (file second) (λ content other. ((place ≡ 0) × IsPast settings content.dataset) ⊎ ((place ≡ 1) × IsWithin settings content.dataset × IsPast settings other.dataset))
+IsPastLimit file (on_file task word) settings place =
+    (place ≡ 0) × IfAccepted (file word) (λ content. IsPast settings content.dataset)
+IsPastLimit file (compare first second) settings place =
+    AreBothAccepted (file first) (file second) (λ content other. ((place ≡ 0) × IsPast settings content.dataset)
+    ⊎ ((place ≡ 1) × IsWithin settings content.dataset × IsPast settings other.dataset))
 IsPastLimit file (lean word) settings place = ⊥
 IsPastLimit file (load n) settings place = (place ≡ 0) × IfLoaded n (λ content. IsPast settings content.dataset)
 
 -- the command compares two datasets whose counted runs are within the limit, and this holds of them
 abbrev pub AreCompared : (Text → FileSeen) → Command → Settings → (Hashing → Dataset → Dataset → Type 0) → Type 0
-AreCompared file (on_file task word) settings Fact = ⊥
-AreCompared file (lean word) settings Fact = ⊥
-AreCompared file (load n) settings Fact = ⊥
 AreCompared file (compare first second) settings Fact =
-    AreBothAccepted (file first) (file second) (λ content other. IsWithin settings content.dataset × IsWithin settings other.dataset × Fact (hashing_of settings) content.dataset other.dataset)
+    AreBothAccepted (file first) (file second) (λ content other. IsWithin settings content.dataset
+    × IsWithin settings other.dataset × Fact (hashing_of settings) content.dataset other.dataset)
+AreCompared file command settings Fact = ⊥
 
 -- the command leans a graph that this is an image of, with a component that has more partial maps than the limit
 abbrev pub IsPastSearchLimit : (Text → FileSeen) → Command → Settings → List Quad → Type 0
-IsPastSearchLimit file (on_file task word) settings image = ⊥
-IsPastSearchLimit file (compare first second) settings image = ⊥
-IsPastSearchLimit file (lean word) settings image = IfAccepted (file word) (λ content. IsPastMaps content.dataset settings.limit image)
-IsPastSearchLimit file (load n) settings image = ⊥
+IsPastSearchLimit file (lean word) settings image =
+    IfAccepted (file word) (λ content. IsPastMaps content.dataset settings.limit image)
+IsPastSearchLimit file command settings image = ⊥
 
 abbrev pub Stops : (Text → FileSeen) → Command → Settings → Status → Type 0
 Stops file command settings NoMemory = Unit {0}
@@ -200,17 +211,22 @@ Stops file command settings (ReadFault place) = IsOfFile file command place (λ 
 Stops file command settings (WorkLimit place limit) = (limit ≡ settings.limit) × IsPastLimit file command settings place
 Stops file command settings Different = AreCompared file command settings AreDifferent
 Stops file command settings (Undecided s t) = AreCompared file command settings (λ ρ D E. AreUndecided ρ D E s t)
-Stops file command settings (SearchLimit limit image) = (limit ≡ settings.limit) × IsPastSearchLimit file command settings image
+Stops file command settings (SearchLimit limit image) =
+    (limit ≡ settings.limit) × IsPastSearchLimit file command settings image
 Stops file command settings status = ⊥
 
 -- ---- the answer
 
 module _ {K : Type 0} (taken : K → Option Text) (faults : K → ℕ) where
-  -- With `Done` the whole text was taken, and each tie of the run is joined; with `Unsettled` too, but for the tie that is carried; with `WriteFault` a proper prefix was taken, where a call on the sink failed.
+  -- With `Done` the whole text was taken, and each tie of the run is joined; with `Unsettled` too, but for the tie that
+  -- is carried; with `WriteFault` a proper prefix was taken, where a call on the sink failed.
   -- With each other status nothing was put, and it has its cause.
   abbrev pub Answers : (Text → FileSeen) → Command → Settings → K → K → Status → Type 0
-  Answers file command settings old new Done = (text : Text) × Appends (taken old) (taken new) text × IsWritten file command settings None text
-  Answers file command settings old new (Unsettled tie) = (text : Text) × Appends (taken old) (taken new) text × IsWritten file command settings (Some tie) text
+  Answers file command settings old new Done =
+      (text : Text) × Appends (taken old) (taken new) text × IsWritten file command settings None text
+  Answers file command settings old new (Unsettled tie) =
+      (text : Text) × Appends (taken old) (taken new) text × IsWritten file command settings (Some tie) text
   Answers file command settings old new WriteFault =
-      Rose (faults old) (faults new) × ((text : Text) × (found : Option Tie) × IsCutShort (taken old) (taken new) text × IsWritten file command settings found text)
+      Rose (faults old) (faults new) × ((text : Text) × (found : Option Tie) × IsCutShort (taken old) (taken new) text
+      × IsWritten file command settings found text)
   Answers file command settings old new status = (new ≡ old) × Stops file command settings status

@@ -1,8 +1,7 @@
--- What follows where nothing failed: isomorphic datasets, of which one has no unjoined tie, get their bijection, and a graph gets its lean form.
+-- What follows where nothing failed: isomorphic datasets, of which one has no unjoined tie, get their bijection, and a
+-- graph gets its lean form.
 use Rattle.std.specs.Prelude.{◌≡◌, ℕ, ◌⊎◌, List, Option, Some}
-use Rattle.rdf_terms.specs.Lists.{Text}
-use Rattle.rdf_terms.specs.Terms.{Statement}
-use Rattle.rdf_terms.specs.Isomorphism.{AreIsomorphic}
+use Rattle.rdf_terms.specs.Vocabulary.{Text, Statement, AreIsomorphic}
 use Rattle.graph_model.specs.Counts.{IsPastSearch}
 use Rattle.graph_model.specs.Graphs.{IsGraph}
 use Rattle.outside.specs.Faults.{Rose}
@@ -30,19 +29,22 @@ pub record AreFineAndAlike (first second : FileSeen) (settings : Settings) : Typ
   pub isomorphic : AreIsomorphic content.dataset other.dataset
   pub settled : IsSettled (hashing_of settings) content.dataset ⊎ IsSettled (hashing_of settings) other.dataset
 
--- the bijection was written whole, or memory was refused
-abbrev pub IsPaired : Status → Type 0
-IsPaired Done = Unit {0}
-IsPaired NoMemory = Unit {0}
-IsPaired status = ⊥
+-- the text was written whole, or memory was refused
+abbrev pub IsWholeText : Status → Type 0
+IsWholeText Done = Unit {0}
+IsWholeText NoMemory = Unit {0}
+IsWholeText status = ⊥
 
 abbrev pub FindsBijections : {K : Type 0} → (K → Option Text) → (K → ℕ) → Type 0
-FindsBijections {K} taken faults = (file : Text → FileSeen) (first second : Text) (settings : Settings) (old new : K) (status : Status) → AreFineAndAlike (file first) (file second) settings → ¬ (Rose (faults old) (faults new))
-    → Answers taken faults file (compare first second) settings old new status → IsPaired status
+FindsBijections {K} taken faults =
+    (file : Text → FileSeen) (first second : Text) (settings : Settings) (old new : K) (status : Status)
+    → AreFineAndAlike (file first) (file second) settings → ¬ (Rose (faults old) (faults new))
+    → Answers taken faults file (compare first second) settings old new status → IsWholeText status
 
 -- ---- a graph that is leaned
 
--- a file that is accepted as a graph, of which no image has a component with more partial maps than the limit, with no failed call on it
+-- a file that is accepted as a graph, of which no image has a component with more partial maps than the limit, with no
+-- failed call on it
 pub record IsFineGraph (file : FileSeen) (settings : Settings) : Type 0 where
   pub bytes : Text
   pub told : file.told ≡ Some bytes
@@ -52,12 +54,8 @@ pub record IsFineGraph (file : FileSeen) (settings : Settings) : Type 0 where
   pub within : (image : List Statement) → ¬ (IsPastSearch content.dataset.statements image settings.limit)
   pub no_read_failed : ¬ (Rose file.faults file.faults_now)
 
--- the text was written whole, or memory was refused
-abbrev pub IsLeaned : Status → Type 0
-IsLeaned Done = Unit {0}
-IsLeaned NoMemory = Unit {0}
-IsLeaned status = ⊥
-
 abbrev pub LeansGraphs : {K : Type 0} → (K → Option Text) → (K → ℕ) → Type 0
-LeansGraphs {K} taken faults = (file : Text → FileSeen) (word : Text) (settings : Settings) (old new : K) (status : Status) → IsFineGraph (file word) settings → ¬ (Rose (faults old) (faults new))
-    → Answers taken faults file (lean word) settings old new status → IsLeaned status
+LeansGraphs {K} taken faults =
+    (file : Text → FileSeen) (word : Text) (settings : Settings) (old new : K) (status : Status)
+    → IsFineGraph (file word) settings → ¬ (Rose (faults old) (faults new))
+    → Answers taken faults file (lean word) settings old new status → IsWholeText status

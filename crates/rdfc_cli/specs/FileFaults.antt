@@ -1,7 +1,6 @@
 -- A file that was handed over in pieces, why a file gave no dataset, and what it says where it did.
 use Rattle.std.specs.Prelude.{◌≡◌, ℕ, ◌≤◌, Option, IfSome, length}
-use Rattle.rdf_terms.specs.Lists.{Text}
-use Rattle.rdf_terms.specs.Document.{Document, dataset}
+use Rattle.rdf_terms.specs.Vocabulary.{Text, Document, dataset}
 use Rattle.outside.specs.Faults.{Rose}
 use Rattle.rdfc_cli.specs.declared.status.Status.{Status}
 use Rattle.rdfc_cli.specs.declared.status.Status.TheVariants.{Refused as RefusedStatus, ReadFault, NoMemory as NoMemoryStatus}

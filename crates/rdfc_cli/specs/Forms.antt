@@ -1,7 +1,6 @@
 -- What is kept of a file that is compared: its canonical run, and what it calls its nodes.
 use Rattle.std.specs.Prelude.{◌≡◌, ℕ, ◌<◌, ◌⊎◌, List, length, Option, Some, None}
-use Rattle.rdf_terms.specs.Lists.{In}
-use Rattle.rdf_terms.specs.Dataset.{Dataset}
+use Rattle.rdf_terms.specs.Vocabulary.{In, Dataset}
 use Rattle.rdf_terms.specs.declared.pair_list.Bijection.{Bijection}
 use Rattle.rdf_terms.specs.declared.term.Label.{Label}
 use Rattle.canon_core.specs.Canonical.{IsCanon}
@@ -42,8 +41,7 @@ HasPairsBelow nodes others pairs = (p : ℕ × ℕ) → In p pairs → (p.0 < no
 -- the pairs of the verdict, where it has some, are of nodes below these numbers
 abbrev pub HasNodesBelow : ℕ → ℕ → Verdict → Type 0
 HasNodesBelow nodes others (Same map) = HasPairsBelow nodes others map.pairs
-HasNodesBelow nodes others DifferentVerdict = Unit {0}
-HasNodesBelow nodes others (UndecidedVerdict s t) = Unit {0}
+HasNodesBelow nodes others verdict = Unit {0}
 
 -- the text of a verdict by these labels
 pub record IsVerdictOutput (labels others : List Label) (verdict : Verdict) (output : Output) : Type 0 where
@@ -66,8 +64,14 @@ pub record IsPairOutput (settings : Settings) (content other : Content) (output 
 
 -- why a comparison has no text
 abbrev pub IsPairStop : Settings → Content → Content → Status → Type 0
-IsPairStop settings content other (WorkLimit place limit) = (limit ≡ settings.limit) × (((place ≡ 0) × IsPast settings content.dataset) ⊎ ((place ≡ 1) × IsWithin settings content.dataset × IsPast settings other.dataset))
-IsPairStop settings content other Different = IsWithin settings content.dataset × IsWithin settings other.dataset × AreDifferent (hashing_of settings) content.dataset other.dataset
-IsPairStop settings content other (Undecided s t) = IsWithin settings content.dataset × IsWithin settings other.dataset × AreUndecided (hashing_of settings) content.dataset other.dataset s t
+IsPairStop settings content other (WorkLimit place limit) =
+    (limit ≡ settings.limit) × (((place ≡ 0) × IsPast settings content.dataset)
+    ⊎ ((place ≡ 1) × IsWithin settings content.dataset × IsPast settings other.dataset))
+IsPairStop settings content other Different =
+    IsWithin settings content.dataset × IsWithin settings other.dataset
+    × AreDifferent (hashing_of settings) content.dataset other.dataset
+IsPairStop settings content other (Undecided s t) =
+    IsWithin settings content.dataset × IsWithin settings other.dataset
+    × AreUndecided (hashing_of settings) content.dataset other.dataset s t
 IsPairStop settings content other NoMemory = Unit {0}
 IsPairStop settings content other status = ⊥

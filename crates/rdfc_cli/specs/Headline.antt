@@ -1,9 +1,8 @@
--- What the answer of a run says of `canon` on a file that is told: the headline, sentence by sentence, and what follows where nothing failed.
+-- What the answer of a run says of `canon` on a file that is told: the headline, sentence by sentence, and what follows
+-- where nothing failed.
 use Rattle.std.specs.Prelude.{◌≡◌, ℕ, ◌<◌, ◌≤◌, Option, Some, take}
 use Rattle.std.specs.Io.KnownBytes.{Appends}
-use Rattle.rdf_terms.specs.Lists.{Text}
-use Rattle.rdf_terms.specs.Dataset.{Dataset, IsValid}
-use Rattle.rdf_terms.specs.Isomorphism.{AreIsomorphic}
+use Rattle.rdf_terms.specs.Vocabulary.{Text, Dataset, IsValid, AreIsomorphic}
 use Rattle.outside.specs.Faults.{Rose}
 use Rattle.canon_model.specs.Hashing.{Hashing}
 use Rattle.canon_model.specs.Allowed.{IsCanonicalOutput}
@@ -26,8 +25,10 @@ abbrev pub OfEachReading : Syntax → Text → (Dataset → Type 0) → Type 0
 OfEachReading syntax bytes Fact = (content : Content) → Accepts syntax bytes content → Fact content.dataset
 
 module _ {K : Type 0} (taken : K → Option Text) (faults : K → ℕ) where
-  -- The sink has taken the text, and nothing else. The standard allows it for the dataset of the file, and for no dataset that is not isomorphic to it, under whichever hashing.
-  pub record Writes (old new : K) (syntax : Syntax) (bytes : Text) (settings : Settings) (D : Dataset) (text : Text) : Type 0 where
+  -- The sink has taken the text, and nothing else. The standard allows it for the dataset of the file, and for no
+  -- dataset that is not isomorphic to it, under whichever hashing.
+  pub record Writes (old new : K) (syntax : Syntax) (bytes : Text) (settings : Settings) (D : Dataset)
+      (text : Text) : Type 0 where
     pub grown : Appends (taken old) (taken new) text
     pub allowed : IsCanonicalOutput (hashing_of settings) D text
     pub tells : (ρ : Hashing) (E : Dataset) → IsValid E → IsCanonicalOutput ρ E text → AreIsomorphic D E
@@ -39,10 +40,14 @@ module _ {K : Type 0} (taken : K → Option Text) (faults : K → ℕ) where
     pub content : Content
     pub accepts : Accepts syntax bytes content
     pub writes : Writes old new syntax bytes settings content.dataset text
-    pub only : (E : Dataset) → AreIsomorphic content.dataset E → (other : Text) → IsCanonicalOutput (hashing_of settings) E other → other ≡ text
+    pub only : (E : Dataset) → AreIsomorphic content.dataset E → (other : Text)
+        → IsCanonicalOutput (hashing_of settings) E other → other ≡ text
 
-  -- With `Unsettled`, the two lists of the tie are those of outcomes that the algorithm doesn't tell apart. Their exchange is no symmetry of the dataset, and no symmetry that keeps the identifiers that were issued before carries the one list to the other.
-  pub record HasUnsettledTie (old new : K) (syntax : Syntax) (bytes : Text) (settings : Settings) (tie : Tie) : Type 0 where
+  -- With `Unsettled`, the two lists of the tie are those of outcomes that the algorithm doesn't tell apart. Their
+  -- exchange is no symmetry of the dataset, and no symmetry that keeps the identifiers that were issued before carries
+  -- the one list to the other.
+  pub record HasUnsettledTie (old new : K) (syntax : Syntax) (bytes : Text) (settings : Settings)
+      (tie : Tie) : Type 0 where
     pub text : Text
     pub content : Content
     pub accepts : Accepts syntax bytes content
@@ -60,7 +65,8 @@ module _ {K : Type 0} (taken : K → Option Text) (faults : K → ℕ) where
     pub passes : OfEachReading syntax bytes (λ D. settings.limit < units_of (hashing_of settings) D)
 
   -- the answer of a task on a file with these bytes
-  pub record IsAnswered (task : Task) (syntax : Syntax) (bytes : Text) (settings : Settings) (old new : K) (status : Status) : Type 0 where
+  pub record IsAnswered (task : Task) (syntax : Syntax) (bytes : Text) (settings : Settings) (old new : K)
+      (status : Status) : Type 0 where
     pub file : Text → FileSeen
     pub word : Text
     pub written_in : (file word).syntax ≡ syntax
@@ -68,9 +74,14 @@ module _ {K : Type 0} (taken : K → Option Text) (faults : K → ℕ) where
     pub answers : Answers taken faults file (on_file task word) settings old new status
 
   pub record Headline : Type 0 where
-    pub done : (syntax : Syntax) (bytes : Text) (settings : Settings) (old new : K) → IsAnswered Canon syntax bytes settings old new Done → IsOneOutput old new syntax bytes settings
-    pub unsettled : (syntax : Syntax) (bytes : Text) (settings : Settings) (old new : K) (tie : Tie) → IsAnswered Canon syntax bytes settings old new (Unsettled tie) → HasUnsettledTie old new syntax bytes settings tie
-    pub work_limit : (syntax : Syntax) (bytes : Text) (settings : Settings) (old new : K) (place limit : ℕ) → IsAnswered Canon syntax bytes settings old new (WorkLimit place limit) → IsPastUnits old new syntax bytes settings limit
+    pub done : (syntax : Syntax) (bytes : Text) (settings : Settings) (old new : K)
+        → IsAnswered Canon syntax bytes settings old new Done → IsOneOutput old new syntax bytes settings
+    pub unsettled : (syntax : Syntax) (bytes : Text) (settings : Settings) (old new : K) (tie : Tie)
+        → IsAnswered Canon syntax bytes settings old new (Unsettled tie)
+        → HasUnsettledTie old new syntax bytes settings tie
+    pub work_limit : (syntax : Syntax) (bytes : Text) (settings : Settings) (old new : K) (place limit : ℕ)
+        → IsAnswered Canon syntax bytes settings old new (WorkLimit place limit)
+        → IsPastUnits old new syntax bytes settings limit
 
   -- ---- completeness
 
@@ -91,12 +102,16 @@ module _ {K : Type 0} (taken : K → Option Text) (faults : K → ℕ) where
     pub no_put_failed : ¬ (Rose (faults old) (faults new))
 
   abbrev pub IsComplete : Type 0
-  IsComplete = (file : Text → FileSeen) (task : Task) (word bytes : Text) (settings : Settings) (old new : K) (status : Status) → IsPlain (file word) old new bytes settings
+  IsComplete =
+      (file : Text → FileSeen) (task : Task) (word bytes : Text) (settings : Settings) (old new : K) (status : Status)
+      → IsPlain (file word) old new bytes settings
       → Answers taken faults file (on_file task word) settings old new status → IsWhole status
 
 -- ---- causes
 
 -- bytes are refused for one cause, and those that are accepted for none
 pub record CausesExclude : Type 0 where
-  pub one : (syntax : Syntax) (bytes : Text) (cause other : Cause) → IsCause syntax bytes cause → IsCause syntax bytes other → cause ≡ other
-  pub none : (syntax : Syntax) (bytes : Text) (content : Content) (cause : Cause) → Accepts syntax bytes content → ¬ (IsCause syntax bytes cause)
+  pub one : (syntax : Syntax) (bytes : Text) (cause other : Cause) → IsCause syntax bytes cause
+      → IsCause syntax bytes other → cause ≡ other
+  pub none : (syntax : Syntax) (bytes : Text) (content : Content) (cause : Cause) → Accepts syntax bytes content
+      → ¬ (IsCause syntax bytes cause)

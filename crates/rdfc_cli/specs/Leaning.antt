@@ -1,11 +1,6 @@
 -- What is written of a graph that is leaned, and why nothing is: the lean graph, the map onto it, and the limit.
 use Rattle.std.specs.Prelude.{◌≡◌, ℕ, Bool, true, false, List, ◌++◌, map, flat_map, Some, codes}
-use Rattle.rdf_terms.specs.Lists.{Text, In, numbers_below}
-use Rattle.rdf_terms.specs.Numeral.{numeral}
-use Rattle.rdf_terms.specs.Terms.{Statement}
-use Rattle.rdf_terms.specs.Dataset.{Dataset, IsUsed}
-use Rattle.rdf_terms.specs.Document.{statement}
-use Rattle.rdf_terms.specs.CanonicalForm.{canonical_term, canonical_nquads}
+use Rattle.rdf_terms.specs.Vocabulary.{Text, In, numbers_below, numeral, Statement, Dataset, IsUsed, statement, canonical_term, canonical_nquads}
 use Rattle.rdf_terms.specs.declared.term.Quad.{Quad}
 use Rattle.rdf_terms.specs.declared.term.Term.{Term}
 use Rattle.rdf_terms.specs.declared.term.Term.TheVariants.{Blank}
@@ -16,7 +11,8 @@ use Rattle.graph_model.specs.Graphs.{IsGraph, IsEndomorphism, IsImage, IsLean}
 abbrev pub node_name : ℕ → Text
 node_name n = codes "e" ++ numeral n
 
--- the map is an endomorphism of the graph, and what it makes of the graph is lean (RDF 1.1 Semantics, section 4); each node of that lies in a set that was searched within the limit
+-- the map is an endomorphism of the graph, and what it makes of the graph is lean (RDF 1.1 Semantics, section 4); each
+-- node of that lies in a set that was searched within the limit
 pub record IsLeanImage (G : List Statement) (limit : ℕ) (μ : ℕ → Term) (image : List Statement) : Type 0 where
   pub graph : IsGraph G
   pub endomorphism : IsEndomorphism μ G

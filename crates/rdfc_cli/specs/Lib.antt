@@ -4,7 +4,6 @@ pub mod Options
 pub mod Requests
 pub mod Puts
 pub mod Notes
-pub mod NoteParts
 pub mod Reports
 pub mod Leaning
 pub mod Answers

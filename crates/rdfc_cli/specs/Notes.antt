@@ -1,16 +1,21 @@
 -- The lines that tell of a run that did not end well.
 use Rattle.std.specs.Prelude.{◌≡◌, ℕ, ◌⊎◌, [], ◌++◌, Option, codes}
 use Rattle.std.specs.Io.KnownBytes.{Appends}
-use Rattle.rdf_terms.specs.Lists.{Text}
-use Rattle.rdf_terms.specs.Numeral.{numeral}
+use Rattle.rdf_terms.specs.Vocabulary.{Text, numeral}
 use Rattle.outside.specs.Faults.{Rose}
 use Rattle.rdfc_cli.specs.Puts.{IsCutShort}
 use Rattle.nquads_reader.specs.declared.TheConstants.{MAX_QUADS}
 use Rattle.rdfc_cli.specs.declared.files.TheConstants.{FILE_LIMIT}
+use Rattle.rdfc_cli.specs.declared.notes.Part.{Part}
+use Rattle.rdfc_cli.specs.declared.notes.Part.TheVariants.{Text as Piece, Number}
 use Rattle.rdfc_cli.specs.declared.status.Status.{Status}
 use Rattle.rdfc_cli.specs.declared.status.Status.TheVariants.{Done, Different, Usage, Unsettled, Refused, ReadFault, WriteFault, WorkLimit, NoMemory, Undecided, SearchLimit}
 use Rattle.rdfc_cli.specs.declared.status.Cause.{Cause}
 use Rattle.rdfc_cli.specs.declared.status.Cause.TheVariants.{TooLong, NotUtf8, BadLine, RelativeIri, BadTrig, UnknownPrefix, NoBase, TooManyQuads, NotOneGraph}
+
+abbrev pub part_text : Part → Text
+part_text (Piece text) = text.now
+part_text (Number n) = numeral n
 
 -- what is said of a refused file, behind its word
 abbrev pub cause_text : Cause → Text
@@ -47,7 +52,8 @@ usage_line = note_line (λ place. []) Usage
 
 -- the notes have taken the line, or a proper prefix of it where a call on them failed
 abbrev pub PutsLine : {N : Type 0} → (N → Option Text) → (N → ℕ) → N → N → Text → Type 0
-PutsLine taken faults old new line = Appends (taken old) (taken new) line ⊎ (IsCutShort (taken old) (taken new) line × Rose (faults old) (faults new))
+PutsLine taken faults old new line =
+    Appends (taken old) (taken new) line ⊎ (IsCutShort (taken old) (taken new) line × Rose (faults old) (faults new))
 
 -- with `Done` the notes are not used, and with each other status they were put its line
 abbrev pub IsNoted : {N : Type 0} → (N → Option Text) → (N → ℕ) → N → N → (ℕ → Text) → Status → Type 0

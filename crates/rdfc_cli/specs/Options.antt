@@ -1,12 +1,16 @@
--- The options that were read so far, each at most once.
-use Rattle.std.specs.Prelude.{◌≡◌, ℕ, List, [], ◌∷◌, ◌++◌, Bool, true, false, Option, Some, None, option_copied, flat_map, map, if◌then◌else◌}
+-- What options set, each of them at most once, and how they are read.
+use Rattle.std.specs.Prelude.{◌≡◌, ℕ, List, [], ◌∷◌, ◌++◌, Bool, true, false, Option, Some, None, option_copied, flat_map, map, if◌then◌else◌, unwrap_or}
 use Rattle.rdf_terms.specs.Lists.{Text, In, AreDistinct}
 use Rattle.canon_model.specs.declared.profile.HashKind.{HashKind}
+use Rattle.canon_model.specs.declared.profile.HashKind.TheVariants.{Sha256}
 use Rattle.canon_model.specs.declared.profile.Related.{Related as Reading}
-use Rattle.rdfc_cli.specs.Words.{Command, Given, Syntax, name_word, spelled_option, option_name, HasGoodValue, given_limit, given_hash, given_related, given_map, given_trig, given_base}
+use Rattle.canon_model.specs.declared.profile.Related.TheVariants.{Each}
+use Rattle.rdfc_cli.specs.Words.{Command, Given, Syntax, name_word, spelled_option, option_name, HasGoodValue}
 use Rattle.rdfc_cli.specs.Words.Command.{on_file, compare, lean, load}
 use Rattle.rdfc_cli.specs.Words.Given.{limit, hash, related, as_map, as_trig, base}
 use Rattle.rdfc_cli.specs.Words.Syntax.{nquads, trig}
+use Rattle.rdfc_cli.specs.declared.options.TheConstants.{DEFAULT_LIMIT}
+use Rattle.rdfc_cli.specs.declared.options.Settings.{Settings}
 use Rattle.rdfc_cli.specs.declared.options.Options.{Options}
 use Rattle.rdfc_cli.specs.declared.options.OptionName.{OptionName}
 
@@ -20,10 +24,45 @@ pub record Chosen : Type 0 where
   pub base : Option Text
 
 abbrev pub chosen : Options → Chosen
-chosen options = record { limit = options.limit; hash = options.hash; related = options.related; map = options.map; trig = options.trig; base = option_copied options.base }
+chosen options =
+    record {
+      limit = options.limit;
+      hash = options.hash;
+      related = options.related;
+      map = options.map;
+      trig = options.trig;
+      base = option_copied options.base;
+    }
 
+abbrev pub with_option : Chosen → Given → Chosen
+with_option chosen (limit n) = record chosen { limit = Some n }
+with_option chosen (hash kind) = record chosen { hash = Some kind }
+with_option chosen (related reading) = record chosen { related = Some reading }
+with_option chosen as_map = record chosen { map = true }
+with_option chosen as_trig = record chosen { trig = true }
+with_option chosen (base iri) = record chosen { base = Some iri }
+
+-- what the options set, one after the other
 abbrev pub chosen_by : List Given → Chosen
-chosen_by given = record { limit = given_limit given; hash = given_hash given; related = given_related given; map = given_map given; trig = given_trig given; base = given_base given }
+chosen_by [] = record { limit = None; hash = None; related = None; map = false; trig = false; base = None }
+chosen_by (given ∷ options) = with_option (chosen_by options) given
+
+-- what is given, and else the default: SHA-256, with an entry for each time that a node is met
+abbrev pub settings_in : List Given → Settings
+settings_in options = record {
+  limit = unwrap_or (chosen_by options).limit DEFAULT_LIMIT;
+  profile = record {
+    hash = unwrap_or (chosen_by options).hash Sha256;
+    related = unwrap_or (chosen_by options).related Each;
+  };
+  map = (chosen_by options).map;
+}
+
+abbrev pub chosen_syntax : Chosen → Syntax
+chosen_syntax chosen = if chosen.trig then trig chosen.base else nquads
+
+abbrev pub syntax_in : List Given → Syntax
+syntax_in options = chosen_syntax (chosen_by options)
 
 -- none of this name was read
 abbrev pub IsNew : Chosen → Given → Type 0
@@ -33,14 +72,6 @@ IsNew chosen (related reading) = chosen.related ≡ None
 IsNew chosen as_map = chosen.map ≡ false
 IsNew chosen as_trig = chosen.trig ≡ false
 IsNew chosen (base iri) = chosen.base ≡ None
-
-abbrev pub with_option : Chosen → Given → Chosen
-with_option chosen (limit n) = record chosen { limit = Some n }
-with_option chosen (hash kind) = record chosen { hash = Some kind }
-with_option chosen (related reading) = record chosen { related = Some reading }
-with_option chosen as_map = record chosen { map = true }
-with_option chosen as_trig = record chosen { trig = true }
-with_option chosen (base iri) = record chosen { base = Some iri }
 
 -- the words spell an option that may come next
 pub record MayFollow (chosen : Chosen) (given : Given) (words : List Text) : Type 0 where
@@ -85,7 +116,8 @@ pub record AreOptions (words : List Text) (chosen : Chosen) (rest : List Text) :
   pub no_more : BeginsNoOption rest
 
 abbrev pub AreNoOptions : List Text → Type 0
-AreNoOptions words = (given : List Given) (rest : List Text) → BeginsNoOption rest → ¬ (BeginsWithOptions words given rest)
+AreNoOptions words =
+    (given : List Given) (rest : List Text) → BeginsNoOption rest → ¬ (BeginsWithOptions words given rest)
 
 -- the first word is this option's name
 abbrev pub BeginsWithName : List Text → OptionName → Type 0
@@ -110,6 +142,3 @@ AreTaken (load n) chosen = LeavesSyntax chosen × (chosen.map ≡ false)
 -- a base is set for TriG alone
 abbrev pub HasFittingBase : Chosen → Type 0
 HasFittingBase chosen = chosen.trig ≡ false → chosen.base ≡ None
-
-abbrev pub chosen_syntax : Chosen → Syntax
-chosen_syntax chosen = if chosen.trig then trig chosen.base else nquads

@@ -1,8 +1,7 @@
 -- A text that is ready to be written, and what the run that it comes from found.
 use Rattle.std.specs.Prelude.{◌≡◌, ℕ, Option, Some, None}
 use Rattle.std.specs.Io.KnownBytes.{Appends}
-use Rattle.rdf_terms.specs.Lists.{Text}
-use Rattle.rdf_terms.specs.Document.{Document, dataset, statements}
+use Rattle.rdf_terms.specs.Vocabulary.{Text, Document, dataset, statements}
 use Rattle.lean_search.specs.declared.form.LeanStop.{LeanStop}
 use Rattle.lean_search.specs.declared.form.LeanStop.TheVariants.{NotOneGraph as NotOneGraphStop, SearchLimit as SearchLimitStop, NoMemory as NoMemoryStop}
 use Rattle.rdfc_cli.specs.Puts.{IsCutShort}
@@ -19,11 +18,13 @@ use Rattle.rdfc_cli.specs.declared.status.Status.TheVariants.{Done, Unsettled, R
 
 -- the output of a task for the dataset of this document
 abbrev pub IsTaskOutput : Task → Settings → Document → Output → Type 0
-IsTaskOutput task settings d output = IsRunText settings output.unsettled (λ ρ. IsTextOf task ρ (dataset d) d.labels) (dataset d) output.text
+IsTaskOutput task settings d output =
+    IsRunText settings output.unsettled (λ ρ. IsTextOf task ρ (dataset d) d.labels) (dataset d) output.text
 
 -- the summary of the dataset of this document
 abbrev pub IsSummaryOutput : Settings → Document → Output → Type 0
-IsSummaryOutput settings d output = IsRunText settings output.unsettled (λ ρ. IsSummary ρ (dataset d)) (dataset d) output.text
+IsSummaryOutput settings d output =
+    IsRunText settings output.unsettled (λ ρ. IsSummary ρ (dataset d)) (dataset d) output.text
 
 -- what was taken of the output, by the status
 abbrev pub Delivers : Option Text → Option Text → Output → Status → Type 0
@@ -34,13 +35,15 @@ Delivers before now output status = ⊥
 
 -- why there is no output of the dataset of this document
 abbrev pub IsRunStop : Settings → Document → Status → Type 0
-IsRunStop settings d (WorkLimit place limit) = (place ≡ 0) × (limit ≡ settings.limit) × PassesLimit (hashing_of settings) (dataset d) settings.limit
+IsRunStop settings d (WorkLimit place limit) =
+    (place ≡ 0) × (limit ≡ settings.limit) × PassesLimit (hashing_of settings) (dataset d) settings.limit
 IsRunStop settings d NoMemory = Unit {0}
 IsRunStop settings d status = ⊥
 
 -- what `lean` writes of the dataset of this document
 abbrev pub IsLeanOutput : Settings → Document → Output → Type 0
-IsLeanOutput settings d output = (output.unsettled ≡ None) × IsLeaning settings.map settings.limit (dataset d) output.text
+IsLeanOutput settings d output =
+    (output.unsettled ≡ None) × IsLeaning settings.map settings.limit (dataset d) output.text
 
 -- the status that a run ends with for which there is no lean form
 abbrev pub EndsAs : LeanStop → ℕ → Status → Type 0
@@ -50,7 +53,8 @@ EndsAs NoMemoryStop limit status = status ≡ NoMemory
 
 -- why `lean` writes nothing of it
 abbrev pub IsLeanEnd : Settings → Document → Status → Type 0
-IsLeanEnd settings d (Refused refusal) = (refusal ≡ record { file = 0; cause = NotOneGraph }) × HasGraphName (statements d)
+IsLeanEnd settings d (Refused refusal) =
+    (refusal ≡ record { file = 0; cause = NotOneGraph }) × HasGraphName (statements d)
 IsLeanEnd settings d (SearchLimit limit image) = (limit ≡ settings.limit) × IsPastMaps (dataset d) settings.limit image
 IsLeanEnd settings d NoMemory = Unit {0}
 IsLeanEnd settings d status = ⊥

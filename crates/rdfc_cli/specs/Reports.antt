@@ -1,11 +1,6 @@
 -- The texts that the commands write.
 use Rattle.std.specs.Prelude.{◌≡◌, ℕ, ◌<◌, List, [], ◌++◌, flat_map, length, Option, Some, None, codes}
-use Rattle.rdf_terms.specs.Lists.{Text, In, numbers_below}
-use Rattle.rdf_terms.specs.Numeral.{numeral}
-use Rattle.rdf_terms.specs.Dataset.{Dataset}
-use Rattle.rdf_terms.specs.Isomorphism.{Relabelling, Carries}
-use Rattle.rdf_terms.specs.Document.{label_at}
-use Rattle.rdf_terms.specs.CanonicalForm.{issued_names}
+use Rattle.rdf_terms.specs.Vocabulary.{Text, In, numbers_below, numeral, Dataset, Relabelling, Carries, label_at, issued_names}
 use Rattle.rdf_terms.specs.declared.term.Prefix.TheVariants.{Canonical}
 use Rattle.rdf_terms.specs.declared.term.Label.{Label}
 use Rattle.rdf_terms.specs.declared.term.Label.TheVariants.{Named, Anonymous}
@@ -53,10 +48,13 @@ list_line word labels nodes = word ++ (flat_map (spaced_label labels) nodes ++ c
 
 abbrev pub tie_lines : List Label → Option Tie → Text
 tie_lines labels None = []
-tie_lines labels (Some tie) = list_line (codes "canon") labels tie.canon ++ (list_line (codes "left") labels tie.left ++ list_line (codes "right") labels tie.right)
+tie_lines labels (Some tie) =
+    list_line (codes "canon") labels tie.canon ++ (list_line (codes "left") labels tie.left
+    ++ list_line (codes "right") labels tie.right)
 
 abbrev pub count_lines : ℕ → ℕ → ℕ → Text
-count_lines units ties joined = number_line (codes "units") units ++ (number_line (codes "ties") ties ++ number_line (codes "joined") joined)
+count_lines units ties joined =
+    number_line (codes "units") units ++ (number_line (codes "ties") ties ++ number_line (codes "joined") joined)
 
 unfoldable pub tie_report : List Label → ℕ → ℕ → ℕ → Option Tie → Text
 tie_report labels units ties joined unsettled = count_lines units ties joined ++ tie_lines labels unsettled
@@ -80,7 +78,9 @@ pub record IsHashLine (ρ : Hashing) (D : Dataset) (text : Text) : Type 0 where
 -- ---- the summary of `load`
 
 abbrev pub summary_text : ℕ → ℕ → ℕ → ℕ → ℕ → Text → Text
-summary_text quads nodes units ties joined hash = number_line (codes "quads") quads ++ (number_line (codes "nodes") nodes ++ (count_lines units ties joined ++ (codes "hash " ++ (hash ++ codes "\n"))))
+summary_text quads nodes units ties joined hash =
+    number_line (codes "quads") quads ++ (number_line (codes "nodes") nodes
+    ++ (count_lines units ties joined ++ (codes "hash " ++ (hash ++ codes "\n"))))
 
 -- how many quads and nodes the dataset has, what its run counted, and the hash of its canonical form
 pub record IsSummary (ρ : Hashing) (D : Dataset) (text : Text) : Type 0 where
@@ -88,7 +88,8 @@ pub record IsSummary (ρ : Hashing) (D : Dataset) (text : Text) : Type 0 where
   pub form : Text
   pub count : JoinedCount D (ties_of_run ρ D) joined
   pub is_form : IsOutputOf ρ D form
-  pub text_is : text ≡ summary_text (length D.statements) D.nodes (units_of ρ D) (length (ties_of_run ρ D)) joined (ρ.hash form)
+  pub text_is : text ≡ summary_text (length D.statements) D.nodes (units_of ρ D) (length (ties_of_run ρ D)) joined
+      (ρ.hash form)
 
 -- ---- the map of a comparison
 
@@ -100,7 +101,8 @@ partner_line labels others σ n = label_in labels n ++ (codes " " ++ (label_in o
 unfoldable pub partner_text : List Label → List Label → (ℕ → ℕ) → ℕ → Text
 partner_text labels others σ nodes = flat_map (partner_line labels others σ) (numbers_below nodes)
 
--- the lines of an isomorphism (RDF 1.1 Concepts, section 4.1): a bijection of the nodes that carries the quads of D exactly to those of E
+-- the lines of an isomorphism (RDF 1.1 Concepts, section 4.1): a bijection of the nodes that carries the quads of D
+-- exactly to those of E
 pub record ArePartnerLines (D E : Dataset) (labels others : List Label) (text : Text) : Type 0 where
   pub relabelling : Relabelling D.nodes
   pub carries : Carries relabelling.to D E

@@ -2,7 +2,8 @@
 use Rattle.std.specs.Prelude.{◌≡◌, List, IfSome, option_copied}
 use Rattle.rdf_terms.specs.Lists.{Text}
 use Rattle.trig_builder.specs.Building.{IsWhole as IsBase}
-use Rattle.rdfc_cli.specs.Words.{Command, Given, Syntax, IsCommand, settings_in, syntax_in, command_word, operands, HasGoodOperands}
+use Rattle.rdfc_cli.specs.Words.{Command, Given, Syntax, IsCommand, command_word, operands, HasGoodOperands}
+use Rattle.rdfc_cli.specs.Options.{settings_in, syntax_in}
 use Rattle.rdfc_cli.specs.Words.Command.{on_file, compare, lean, load}
 use Rattle.rdfc_cli.specs.Words.Syntax.{nquads, trig}
 use Rattle.rdfc_cli.specs.declared.options.Syntax.{Syntax as ReadSyntax}

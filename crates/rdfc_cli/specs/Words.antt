@@ -1,17 +1,15 @@
 -- The grammar of the command line: a command, its options in any order, and its operands.
-use Rattle.std.specs.Prelude.{◌≡◌, ◌≢◌, ◌==◌, if◌then◌else◌, ℕ, ◌≤◌, Bool, true, false, List, [], ◌∷◌, ◌++◌, Option, Some, None, flat_map, map, codes, unwrap_or}
-use Rattle.rdf_terms.specs.Lists.{Text, In, AreDistinct}
-use Rattle.rdf_terms.specs.Numeral.{numeral}
+use Rattle.std.specs.Prelude.{◌≡◌, ◌≢◌, ◌==◌, if◌then◌else◌, ℕ, ◌≤◌, List, [], ◌∷◌, ◌++◌, Option, flat_map, map, codes}
+use Rattle.rdf_terms.specs.Vocabulary.{Text, In, AreDistinct, numeral}
 use Rattle.canon_model.specs.declared.profile.HashKind.{HashKind}
 use Rattle.canon_model.specs.declared.profile.HashKind.TheVariants.{Sha256, Sha384}
 use Rattle.canon_model.specs.declared.profile.Related.{Related as Reading}
 use Rattle.canon_model.specs.declared.profile.Related.TheVariants.{Each, Once}
 use Rattle.trig_builder.specs.Building.{IsWhole as IsBase}
 use Rattle.load_document.specs.declared.generator.TheConstants.{LEAST_NUMBER, GREATEST_NUMBER}
-use Rattle.rdfc_cli.specs.declared.options.TheConstants.{LEAST_LIMIT, GREATEST_LIMIT, DEFAULT_LIMIT}
+use Rattle.rdfc_cli.specs.declared.options.TheConstants.{LEAST_LIMIT, GREATEST_LIMIT}
 use Rattle.rdfc_cli.specs.declared.options.OptionName.{OptionName}
 use Rattle.rdfc_cli.specs.declared.options.OptionName.TheVariants.{Limit, Hash, Related, Map as MapName, TriG as TriGName, Base as BaseName}
-use Rattle.rdfc_cli.specs.declared.options.Settings.{Settings}
 use Rattle.rdfc_cli.specs.declared.words.Task.{Task}
 use Rattle.rdfc_cli.specs.declared.words.Task.TheVariants.{Canon, Hash as HashTask, Map, Ties}
 
@@ -110,18 +108,14 @@ spelled_option given = name_word (option_name given) ∷ option_value given
 -- The values that an option may have. A base is an IRI with a scheme (RFC 3986, section 5.1).
 abbrev pub HasGoodValue : Given → Type 0
 HasGoodValue (limit n) = (LEAST_LIMIT ≤ n) × (n ≤ GREATEST_LIMIT)
-HasGoodValue (hash kind) = Unit {0}
-HasGoodValue (related reading) = Unit {0}
-HasGoodValue as_map = Unit {0}
-HasGoodValue as_trig = Unit {0}
 HasGoodValue (base iri) = IsBase iri
+HasGoodValue given = Unit {0}
 
 -- a comparison is under the default profile alone, and a lean form under none
 abbrev pub HasProfile : Command → Type 0
-HasProfile (on_file task file) = Unit {0}
 HasProfile (compare first second) = ⊥
 HasProfile (lean file) = ⊥
-HasProfile (load n) = Unit {0}
+HasProfile command = Unit {0}
 
 -- only `lean` has a map to show in place of its graph
 abbrev pub HasMap : Command → Type 0
@@ -154,50 +148,9 @@ pub record IsCommand (words : List Text) (command : Command) (options : List Giv
 abbrev pub IsNoCommand : List Text → Type 0
 IsNoCommand words = (command : Command) (options : List Given) → ¬ (IsCommand words command options)
 
--- ---- what the options set
-
-abbrev pub given_limit : List Given → Option ℕ
-given_limit [] = None
-given_limit (limit n ∷ options) = Some n
-given_limit (given ∷ options) = given_limit options
-
-abbrev pub given_hash : List Given → Option HashKind
-given_hash [] = None
-given_hash (hash kind ∷ options) = Some kind
-given_hash (given ∷ options) = given_hash options
-
-abbrev pub given_related : List Given → Option Reading
-given_related [] = None
-given_related (related reading ∷ options) = Some reading
-given_related (given ∷ options) = given_related options
-
-abbrev pub given_map : List Given → Bool
-given_map [] = false
-given_map (as_map ∷ options) = true
-given_map (given ∷ options) = given_map options
-
-abbrev pub given_trig : List Given → Bool
-given_trig [] = false
-given_trig (as_trig ∷ options) = true
-given_trig (given ∷ options) = given_trig options
-
-abbrev pub given_base : List Given → Option Text
-given_base [] = None
-given_base (base iri ∷ options) = Some iri
-given_base (given ∷ options) = given_base options
-
--- what is given, and else the default: SHA-256, with an entry for each time that a node is met
-abbrev pub settings_in : List Given → Settings
-settings_in options = record {
-  limit = unwrap_or (given_limit options) DEFAULT_LIMIT;
-  profile = record { hash = unwrap_or (given_hash options) Sha256; related = unwrap_or (given_related options) Each };
-  map = given_map options;
-}
+-- ---- the files
 
 -- how the files are written: in N-Quads, or in TriG with this base, where one is given
 pub data Syntax : Type 0 where
   nquads : Syntax
   trig : Option Text → Syntax
-
-abbrev pub syntax_in : List Given → Syntax
-syntax_in options = if given_trig options then trig (given_base options) else nquads

@@ -2,7 +2,8 @@
 ghost use Rattle.std.specs.Prelude.{◌≡◌, ◌↔◌, ◌≤◌, List, map, string_bytes, IfOk, IfErr, MatchOption};
 ghost use Rattle.rdf_terms.specs.Lists.{Text};
 ghost use Rattle.outside.specs.Faults.{Rose};
-ghost use Rattle.rdfc_cli.specs.Words.{Command as SpelledCommand, Given, HasGoodOperands, IsCommand, IsNoCommand, settings_in, syntax_in, file_word};
+ghost use Rattle.rdfc_cli.specs.Words.{Command as SpelledCommand, Given, HasGoodOperands, IsCommand, IsNoCommand, file_word};
+ghost use Rattle.rdfc_cli.specs.Options.{settings_in, syntax_in};
 ghost use Rattle.rdfc_cli.specs.Words.Command.{on_file, compare, lean, load};
 ghost use Rattle.rdfc_cli.specs.Requests.{command_of, syntax_of, HasGoodBase};
 ghost use Rattle.rdfc_cli.specs.Answers.{FileSeen, seen, IsWritten, Stops, Answers};

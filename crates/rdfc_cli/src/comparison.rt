@@ -65,7 +65,7 @@ fn output_of_verdict(
     }
 }
 
-/// What is written of two files by their forms, or why nothing is.
+// What is written of two files by their forms, or why nothing is.
 pub(crate) fn output_of_forms(
     alloc: Global,
     settings: Settings,

@@ -139,7 +139,7 @@ fn dataset_of_document(alloc: Global, parsed: Parsed) -> Result<Dataset, FileFau
     Ok(dataset)
 }
 
-/// The dataset of a file. It is judged after it was read to its end.
+// The dataset of a file. It is judged after it was read to its end.
 pub(crate) fn read_dataset<S: Shelf>(
     alloc: Global,
     keys: RandomState,

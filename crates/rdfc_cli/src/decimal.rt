@@ -4,9 +4,9 @@ ghost use Rattle.rdf_terms.specs.Numeral.{numeral};
 
 use std::marker::Model;
 
-/// The numeral of a number, which takes no memory.
+// The numeral of a number, which takes no memory.
 #[derive(Drop)]
-pub struct Decimal {
+pub(crate) struct Decimal {
     digits: [u8; 20],
     start: usize,
 }
@@ -23,7 +23,7 @@ impl Model for Decimal {
 }
 
 impl Decimal {
-    pub fn of(number: u64) -> Self
+    pub(crate) fn of(number: u64) -> Self
         ensures { result ≡ numeral number }
     {
         let mut digits = [b'0'; 20];
@@ -38,7 +38,7 @@ impl Decimal {
         Decimal { digits, start }
     }
 
-    pub fn as_bytes(&self) -> &[u8]
+    pub(crate) fn as_bytes(&self) -> &[u8]
         ensures { result.now ≡ self.now }
     {
         &self.digits[self.start..]

@@ -7,7 +7,7 @@ ghost use Rattle.rdfc_cli.specs.Words.{Syntax};
 ghost use Rattle.rdfc_cli.specs.declared.files.FileFault.TheVariants.{Failed as Fault, NoMemory as Memory};
 
 use crate::status::Cause;
-use nquads_reader::LineReader;
+use nquads_reader::{LineReader, MOST_BYTES};
 use outside::{Failed, Shelf};
 use rdf_terms::NoMemory;
 use std::alloc::Global;
@@ -18,7 +18,7 @@ pub const FILE_LIMIT: usize = 268_435_456;
 // How many bytes are asked for at once.
 const PIECE_LEN: usize = 65_536;
 
-/// Why a file gave no dataset.
+// Why a file gave no dataset.
 #[derive(Clone, Copy, Debug, PartialEq, Eq)]
 pub(crate) enum FileFault {
     Failed,
@@ -48,13 +48,13 @@ fn zeros(alloc: Global, len: usize) -> Result<Vec<u8>, NoMemory>
     Ok(vec![in alloc; 0u8; len]?)
 }
 
-/// What takes the bytes of a file, one piece after the other.
+// What takes the bytes of a file, one piece after the other.
 pub(crate) trait Intake {
     /// Whether it took exactly these bytes.
     ghost holds: { Self → List ℕ → Type 0 };
 
     fn take(&mut self, piece: &[u8]) -> Result<(), NoMemory>
-        requires { (bytes : List ℕ) × holds self.old bytes × (length bytes + length piece.now ≤ 4294967295) }
+        requires { (bytes : List ℕ) × holds self.old bytes × (length bytes + length piece.now ≤ MOST_BYTES) }
         ensures { (bytes : List ℕ) → holds self.old bytes → OnOk result (holds self.new (bytes ++ piece.now)) };
 }
 
@@ -75,8 +75,8 @@ impl Intake for Vec<u8> {
     }
 }
 
-/// What is left of the intake when it took a whole file. The first call that fails ends the reading, and so does the
-/// first byte past the limit; what was taken is given up then.
+// What is left of the intake when it took a whole file. The first call that fails ends the reading, and so does the
+// first byte past the limit; what was taken is given up then.
 pub(crate) fn feed_file<S: Shelf, I: Intake + Drop>(
     alloc: Global,
     intake: I,

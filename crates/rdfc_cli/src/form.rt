@@ -18,12 +18,12 @@ use rdf_terms::{Label, LabelRef, NoMemory};
 use std::alloc::Global;
 use std::hash::RandomState;
 
-/// The canonical run of a file's dataset, `None` where it passes the limit, and what the file calls its nodes. The
-/// dataset itself, with its texts, is given up.
+// The canonical run of a file's dataset, `None` where it passes the limit, and what the file calls its nodes. The
+// dataset itself, with its texts, is given up.
 #[derive(Debug, Drop)]
 pub(crate) struct Form {
-    pub canon: Option<Canon>,
-    pub labels: Vec<Label>,
+    pub(crate) canon: Option<Canon>,
+    pub(crate) labels: Vec<Label>,
 }
 
 fn copy_of_label(alloc: Global, label: &Label) -> Result<Label, NoMemory>
@@ -65,7 +65,7 @@ fn form_of_dataset(alloc: Global, settings: Settings, dataset: &Dataset) -> Resu
     Ok(Form { canon, labels })
 }
 
-/// The form of a file, which is read and judged whole before its run begins.
+// The form of a file, which is read and judged whole before its run begins.
 pub(crate) fn form_of_file<S: Shelf>(
     alloc: Global,
     keys: RandomState,

@@ -62,7 +62,7 @@ fn map_text(alloc: Global, graph: &Dataset, form: &LeanForm) -> Result<Bytes, No
     Ok(Bytes::new(out))
 }
 
-/// The text of the lean form of a graph: the map where the settings say so, and else the graph.
+// The text of the lean form of a graph: the map where the settings say so, and else the graph.
 pub(crate) fn lean_text(
     alloc: Global,
     settings: Settings,

@@ -37,7 +37,7 @@ fn read_made(alloc: Global, keys: RandomState, number: u32) -> Result<Parsed, No
     }
 }
 
-/// The dataset of the document that is made from the number.
+// The dataset of the document that is made from the number.
 pub(crate) fn made_dataset(
     alloc: Global,
     keys: RandomState,
@@ -88,7 +88,7 @@ fn output_of_run(alloc: Global, dataset: &Dataset, canon: Canon) -> Result<Outpu
     })
 }
 
-/// The summary of a dataset, or how the run stops.
+// The summary of a dataset, or how the run stops.
 pub(crate) fn summary_output(
     alloc: Global,
     settings: Settings,

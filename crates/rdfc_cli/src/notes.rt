@@ -4,10 +4,9 @@ ghost use Rattle.rdf_terms.specs.Lists.{joined};
 ghost use Rattle.rdf_terms.specs.Numeral.{numeral};
 ghost use Rattle.outside.specs.Faults.{HasCause};
 ghost use Rattle.rdfc_cli.specs.Puts.{Puts};
-ghost use Rattle.rdfc_cli.specs.Notes.{cause_text, status_text, note_line, IsNoted, PutsLine, usage_line};
+ghost use Rattle.rdfc_cli.specs.Notes.{part_text, cause_text, status_text, note_line, IsNoted, PutsLine, usage_line};
 ghost use Rattle.rdfc_cli.specs.Words.{file_word};
 ghost use Rattle.rdfc_cli.specs.Requests.{command_of};
-ghost use Rattle.rdfc_cli.specs.NoteParts.{part_text};
 
 use crate::decimal::Decimal;
 use crate::files::FILE_LIMIT;

@@ -6,9 +6,9 @@ ghost use Rattle.rdf_terms.specs.Numeral.{numeral};
 ghost use Rattle.canon_model.specs.declared.profile.HashKind.{HashKind};
 ghost use Rattle.canon_model.specs.declared.profile.Related.{Related};
 ghost use Rattle.trig_builder.specs.Building.{IsWhole as IsBase};
-ghost use Rattle.rdfc_cli.specs.Words.{Given, name_word, hash_word, related_word, settings_in};
+ghost use Rattle.rdfc_cli.specs.Words.{Given, name_word, hash_word, related_word};
 ghost use Rattle.rdfc_cli.specs.Words.Given.{limit as limit_given, hash as hash_given, related as related_given, as_map as map_given, as_trig as trig_given, base as base_given};
-ghost use Rattle.rdfc_cli.specs.Options.{chosen, chosen_by, chosen_syntax, MayFollow, MayRead, Adds, Reads, AreOptions, AreNoOptions, BeginsNoOption, BeginsWithName, LeavesProfile, LeavesSyntax, HasFittingBase};
+ghost use Rattle.rdfc_cli.specs.Options.{chosen, chosen_by, chosen_syntax, settings_in, MayFollow, MayRead, Adds, Reads, AreOptions, AreNoOptions, BeginsNoOption, BeginsWithName, LeavesProfile, LeavesSyntax, HasFittingBase};
 ghost use Rattle.rdfc_cli.specs.Requests.{syntax_of};
 ghost use Rattle.rdfc_cli.specs.declared.options.OptionName.{OptionName};
 
@@ -67,11 +67,11 @@ pub(crate) struct Options<'a> {
     base: Option<&'a str>,
 }
 
-/// The options that were read so far, and the words that are left.
+// The options that were read so far, and the words that are left.
 #[derive(Clone, Copy)]
 pub(crate) struct Reading<'a> {
-    pub options: Options<'a>,
-    pub rest: &'a [String],
+    pub(crate) options: Options<'a>,
+    pub(crate) rest: &'a [String],
 }
 
 fn name_of(word: &str) -> Option<OptionName>
@@ -104,7 +104,7 @@ fn number_of(word: &str) -> Option<u64>
     }
 }
 
-/// The number that the word is the decimal numeral of, without sign or leading zero, where it is within the bounds.
+// The number that the word is the decimal numeral of, without sign or leading zero, where it is within the bounds.
 pub(crate) fn number_within(word: &str, least: u64, greatest: u64) -> Option<u64>
     ensures some { IfSome result (λ n. word.now ≡ numeral n) }
     ensures least { IfSome result (λ n. least ≤ n) }
@@ -256,7 +256,7 @@ impl<'a> Options<'a> {
         }
     }
 
-    /// Whether none of them was read that sets the profile.
+    // Whether none of them was read that sets the profile.
     pub(crate) fn leave_the_profile(&self) -> bool
         ensures { IsTrue result ↔ LeavesProfile (chosen self.now) }
     {
@@ -266,7 +266,7 @@ impl<'a> Options<'a> {
         }
     }
 
-    /// Whether none of them was read that says how files are written.
+    // Whether none of them was read that says how files are written.
     pub(crate) fn leave_the_syntax(&self) -> bool
         ensures { IsTrue result ↔ LeavesSyntax (chosen self.now) }
     {
@@ -276,14 +276,14 @@ impl<'a> Options<'a> {
         }
     }
 
-    /// Whether the graph is shown, and not the map.
+    // Whether the graph is shown, and not the map.
     pub(crate) fn leave_the_map(&self) -> bool
         ensures { IsTrue result ↔ (self.now.map ≡ false) }
     {
         !self.map
     }
 
-    /// What they set, with the default for each that was not read.
+    // What they set, with the default for each that was not read.
     pub(crate) fn settings(&self) -> Settings
         ensures { (given : List Given) → chosen self.now ≡ chosen_by given → result ≡ settings_in given }
     {
@@ -297,7 +297,7 @@ impl<'a> Options<'a> {
         }
     }
 
-    /// How they say that files are written. `None` where a base was read and TriG was not.
+    // How they say that files are written. `None` where a base was read and TriG was not.
     pub(crate) fn syntax(&self) -> Option<Syntax<'a>>
         ensures some { IfSome result (λ s. syntax_of s ≡ chosen_syntax (chosen self.now)) }
         ensures fits { IfSome result (λ _. HasFittingBase (chosen self.now)) }
@@ -339,8 +339,8 @@ impl<'a> Reading<'a> {
     }
 }
 
-/// The options that the words begin with, and the words behind them. `None` where an option is spelled wrong, or is
-/// there twice.
+// The options that the words begin with, and the words behind them. `None` where an option is spelled wrong, or is
+// there twice.
 pub(crate) fn read_options(words: &[String]) -> Option<Reading<'_>>
     ensures some { IfSome result (λ r. AreOptions (map string_bytes words.now) (chosen r.options) (map string_bytes r.rest.now)) }
     ensures none { IfNone result (AreNoOptions (map string_bytes words.now)) }

@@ -18,11 +18,11 @@ use ndegree_hash::{Stop, Tie};
 use rdf_terms::{Bytes, NoMemory};
 use std::alloc::Global;
 
-/// A text that is ready to be written, and the first tie of its run that is not joined.
+// A text that is ready to be written, and the first tie of its run that is not joined.
 #[derive(Debug, Drop)]
 pub(crate) struct Output {
-    pub text: Bytes,
-    pub unsettled: Option<Tie>,
+    pub(crate) text: Bytes,
+    pub(crate) unsettled: Option<Tie>,
 }
 
 // The hash of the canonical form in lower-case hexadecimal, and a line feed.
@@ -59,7 +59,7 @@ fn text_of(alloc: Global, task: Task, dataset: &Dataset, canon: Canon) -> Result
     })
 }
 
-/// What the task writes for a dataset.
+// What the task writes for a dataset.
 pub(crate) fn task_output(
     alloc: Global,
     task: Task,

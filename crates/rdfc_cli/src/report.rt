@@ -11,7 +11,7 @@ use ndegree_hash::Tie;
 use rdf_terms::{Bytes, Label, NoMemory};
 use std::alloc::Global;
 
-/// Appends a decimal numeral.
+// Appends a decimal numeral.
 pub(crate) fn push_number(out: &mut Vec<u8>, number: u64) -> Result<(), NoMemory>
     ensures { OnOk result (out.new.items ≡ out.old.items ++ numeral number) }
 {
@@ -19,7 +19,7 @@ pub(crate) fn push_number(out: &mut Vec<u8>, number: u64) -> Result<(), NoMemory
     Ok(())
 }
 
-/// Appends what a document calls a node.
+// Appends what a document calls a node.
 pub(crate) fn push_label(out: &mut Vec<u8>, label: &Label) -> Result<(), NoMemory>
     ensures { OnOk result (out.new.items ≡ out.old.items ++ label_text label.now) }
 {
@@ -48,7 +48,7 @@ fn push_map_line(out: &mut Vec<u8>, label: &Label, place: usize) -> Result<(), N
     Ok(())
 }
 
-/// A line for each node of the canonical list, in its order: its label and its canonical identifier.
+// A line for each node of the canonical list, in its order: its label and its canonical identifier.
 pub(crate) fn map_of_names(
     alloc: Global,
     dataset: &Dataset,
@@ -65,7 +65,7 @@ pub(crate) fn map_of_names(
     Ok(Bytes::new(out))
 }
 
-/// Appends a line with a word and a number.
+// Appends a line with a word and a number.
 pub(crate) fn push_count(out: &mut Vec<u8>, word: &str, number: u64) -> Result<(), NoMemory>
     ensures { OnOk result (out.new.items ≡ out.old.items ++ number_line word.now number) }
 {
@@ -127,7 +127,7 @@ fn push_unsettled(
     }
 }
 
-/// Appends what the run counted.
+// Appends what the run counted.
 pub(crate) fn push_counts(out: &mut Vec<u8>, canon: &Canon) -> Result<(), NoMemory>
     ensures { OnOk result (out.new.items ≡ out.old.items ++ count_lines canon.now.units canon.now.ties canon.now.joined) }
 {
@@ -136,7 +136,7 @@ pub(crate) fn push_counts(out: &mut Vec<u8>, canon: &Canon) -> Result<(), NoMemo
     push_count(out, "joined", canon.joined)
 }
 
-/// What the run counted, and its first tie that is not joined.
+// What the run counted, and its first tie that is not joined.
 pub(crate) fn report_of_ties(
     alloc: Global,
     dataset: &Dataset,

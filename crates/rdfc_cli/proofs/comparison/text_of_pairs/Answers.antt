@@ -16,5 +16,6 @@ loop-pair-preserved c =
     let i = c.loop-pair.pair-index in
     let p : ℕ × ℕ = get_or pairs i (0, 0) in
     let below = c.requires p (In-get_or pairs i (0, 0) c.loop-pair-test.true) in
-    one_more_pair c.args.labels.now c.args.others.now pairs i p c.index-labels-node.result c.index-others-partner.result c.loop-pair.out.items _ c.loop-pair-test.true (get_or_default pairs i (0, 0) p c.loop-pair-test.true) below.0 below.1
+    one_more_pair c.args.labels.now c.args.others.now pairs i p c.index-labels-node.result c.index-others-partner.result c.loop-pair.out.items _ c.loop-pair-test.true
+    (get_or_default pairs i (0, 0) p c.loop-pair-test.true) below.0 below.1
     c.index-labels-node.is c.index-others-partner.is c.loop-pair.invariant c.in_ok-push_pair.ensures

@@ -8,12 +8,14 @@ use Rattle.rdfc_cli.proofs.dataset_file.read_lines.Goals as goal
 pub returns-clause-stated : goal.returns-clause-stated
 returns-clause-stated g c =
     let fed = c.in_ok-reader.ensures.fed in
-    ok_as_told _ fed.bytes (λ all (parsed : Document). States nquads all parsed.labels (statements parsed)) fed.whole c.document_of_lines.result (c.document_of_lines.ensures.stated fed.bytes fed.within fed.holds)
+    ok_as_told _ fed.bytes (λ all (parsed : Document). States nquads all parsed.labels (statements parsed)) fed.whole c.document_of_lines.result
+    (c.document_of_lines.ensures.stated fed.bytes fed.within fed.holds)
 
 pub returns-clause-fault : goal.returns-clause-fault
 returns-clause-fault g c =
     let fed = c.in_ok-reader.ensures.fed in
-    fault_as_told (seen nquads g.S.Shelf.told g.S.Shelf.faults c.args.shelf.now c.feed_file.new.shelf c.args.file.now) fed.bytes fed.whole c.document_of_lines.result (c.document_of_lines.ensures.fault fed.bytes fed.within fed.holds)
+    fault_as_told (seen nquads g.S.Shelf.told g.S.Shelf.faults c.args.shelf.now c.feed_file.new.shelf c.args.file.now) fed.bytes fed.whole c.document_of_lines.result
+    (c.document_of_lines.ensures.fault fed.bytes fed.within fed.holds)
 
 pub returns-in_err-reader-clause-fault : goal.returns-in_err-reader-clause-fault
 returns-in_err-reader-clause-fault g c =

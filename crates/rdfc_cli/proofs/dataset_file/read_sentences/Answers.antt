@@ -14,7 +14,8 @@ returns-clause-stated g c =
     let syntax = trig (option_copied c.args.base) in
     let fed = c.in_ok-bytes.ensures.fed in
     let read : length fed.bytes ≤ FILE_LIMIT → IfOk c.document_of_trig.result (λ parsed. States syntax fed.bytes parsed.labels (statements parsed)) =
-    subst (λ b. length b ≤ FILE_LIMIT → IfOk c.document_of_trig.result (λ parsed. States syntax b parsed.labels (statements parsed))) (c.deref.ensures.value ∙ fed.holds) c.document_of_trig.ensures.stated in
+    subst (λ b. length b ≤ FILE_LIMIT → IfOk c.document_of_trig.result (λ parsed. States syntax b parsed.labels (statements parsed)))
+    (c.deref.ensures.value ∙ fed.holds) c.document_of_trig.ensures.stated in
     ok_as_told _ fed.bytes (λ all (parsed : Document). States syntax all parsed.labels (statements parsed)) fed.whole c.document_of_trig.result (read fed.within)
 
 pub returns-clause-fault : goal.returns-clause-fault

@@ -16,7 +16,17 @@ pub take-requires : goal.take-requires
 take-requires g c = (
   c.loop-total.invariant.fed.bytes,
   c.loop-total.invariant.fed.holds,
-  omega (arith, c.loop-total.invariant.fed.counted, c.loop-total-test.true, c.in_ok-count.ensures.bound, c.next.auto.buf, c.deref_mut.ensures.len, c.deref.ensures.len, length-take {A = ℕ}, c.loop-total.invariant.buffer),
+  omega (
+    arith,
+    c.loop-total.invariant.fed.counted,
+    c.loop-total-test.true,
+    c.in_ok-count.ensures.bound,
+    c.next.auto.buf,
+    c.deref_mut.ensures.len,
+    c.deref.ensures.len,
+    length-take {A = ℕ},
+    c.loop-total.invariant.buffer,
+  ),
 )
 
 pub loop-total-preserved : goal.loop-total-preserved
@@ -29,7 +39,8 @@ loop-total-preserved g c =
       ready = c.in_ok-count.ensures.ready;
       fed = fed_more g.I.Intake.holds _ _ _ c.loop-total.intake c.take.new.self c.loop-total.total _ given c.loop-total.invariant.fed c.in_ok-count.ensures.bytes.0
           (λ bytes holds.
-          subst (λ l. g.I.Intake.holds c.take.new.self (bytes ++ take count l)) (c.deref.ensures.value ∙ whole c.loop-total.piece.len c.next.new.buf _ (omega (arith, c.next.auto.buf, c.deref_mut.ensures.len)))
+          subst (λ l. g.I.Intake.holds c.take.new.self (bytes ++ take count l)) (c.deref.ensures.value
+          ∙ whole c.loop-total.piece.len c.next.new.buf _ (omega (arith, c.next.auto.buf, c.deref_mut.ensures.len)))
           (c.in_ok-take.ensures bytes holds))
           now;
       told = λ other. c.next.ensures.told other ∙ c.loop-total.invariant.told other;

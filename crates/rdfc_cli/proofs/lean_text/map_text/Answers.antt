@@ -1,7 +1,6 @@
 use Rattle.std.proofs.Common.{◌≡◌, ◌++◌, length, get_or, ap, ◌∙◌, arith}
 use Rattle.std.specs.Prelude.{flat_map}
-use Rattle.rdf_terms.specs.Lists.{numbers_below}
-use Rattle.rdf_terms.specs.Document.{term_at}
+use Rattle.rdf_terms.proofs.Common.{numbers_below, term_at}
 use Rattle.lean_search.specs.Lean.{map_by}
 use Rattle.rdfc_cli.specs.Leaning.{line_of, mapped_line}
 use Rattle.rdfc_cli.proofs.Leaning.{is_map_text, one_more_line}

@@ -1,6 +1,6 @@
 use Rattle.std.proofs.Common.{arith}
 use Rattle.std.proofs.lemmas.Result.{err_from_is_err_and}
-use Rattle.rdfc_cli.specs.NoteParts.{part_text}
+use Rattle.rdfc_cli.specs.Notes.{part_text}
 use Rattle.rdfc_cli.proofs.Putting.{IsPutTo-next, IsPutTo-cut}
 use Rattle.rdfc_cli.proofs.notes.put_parts.Goals as goal
 

@@ -1,5 +1,5 @@
 use Rattle.std.proofs.Common.{◌≤◌}
-use Rattle.rdfc_cli.specs.NoteParts.{part_text}
+use Rattle.rdfc_cli.specs.Notes.{part_text}
 use Rattle.rdfc_cli.proofs.Putting.{IsPutTo}
 use Rattle.rdfc_cli.proofs.notes.put_parts.Given as goal
 

@@ -12,6 +12,7 @@ returns-then-iri_len-word-clause-good c =
 pub returns-else-has_scheme-clause-none : goal.returns-else-has_scheme-clause-none
 returns-else-has_scheme-clause-none c base =
     elim c.else-has_scheme.branch [
-      | else-has_scheme-via-then-has_scheme+else-iri_len-word w ↦ w.if-iri_len-word.false (w.iri_len.ensures.is ∙ ap (prefix_len may_stand_in_iriref) w.as_bytes.ensures.value ∙ len-of_base c.args.word.now base)
+      | else-has_scheme-via-then-has_scheme+else-iri_len-word w ↦ w.if-iri_len-word.false
+          (w.iri_len.ensures.is ∙ ap (prefix_len may_stand_in_iriref) w.as_bytes.ensures.value ∙ len-of_base c.args.word.now base)
       | else-has_scheme-via-else-has_scheme w ↦ true≢false (sym (c.has_scheme.ensures.1 base.has_scheme) ∙ w.if-has_scheme.false)
     ]

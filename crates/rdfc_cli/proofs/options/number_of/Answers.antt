@@ -2,9 +2,7 @@ use Rattle.std.proofs.Common.{◌≡◌, ℕ, ◌^◌, ◌<◌, Ok, Result, sym,
 use Rattle.std.specs.Str.Parse.{ParsesUnsigned}
 use Rattle.std.proofs.lemmas.Fmt.{parse-decimal}
 use Rattle.std.proofs.lemmas.Slice.Eq.{bytes_eq-Decides}
-use Rattle.rdf_terms.specs.Lists.{Text}
-use Rattle.rdf_terms.specs.Numeral.{numeral}
-use Rattle.rdf_terms.proofs.Numerals.{numeral-decimal}
+use Rattle.rdf_terms.proofs.Common.{Text, numeral, numeral-decimal}
 use Rattle.rdfc_cli.proofs.options.number_of.Goals as goal
 
 parsed : {E : Type 0} (word : Text) (n : ℕ) (r : Result ℕ E) → n < 2 ^ 64 → word ≡ numeral n → ParsesUnsigned 64 10 word r → r ≡ Ok n

@@ -9,7 +9,8 @@ use Rattle.rdfc_cli.proofs.words.read_words.Goals as goal
 pub returns-in_err-command-clause-none : goal.returns-in_err-command-clause-none
 returns-in_err-command-clause-none c =
     if_none _ (subst IsNoCommand (sym (ap (map string_bytes) c.in_ok-word.ensures.cases.0))
-    (no_command-operands _ _ _ (chosen c.in_ok-options.field-0.options) c.in_ok-options.ensures.some (λ command s. c.in_err-command.ensures.none command (subst (λ w. IsSpelled w (map string_bytes c.in_ok-options.field-0.rest.now) command) (sym c.as_str.ensures.value) s))))
+    (no_command-operands _ _ _ (chosen c.in_ok-options.field-0.options) c.in_ok-options.ensures.some
+    (λ command s. c.in_err-command.ensures.none command (subst (λ w. IsSpelled w (map string_bytes c.in_ok-options.field-0.rest.now) command) (sym c.as_str.ensures.value) s))))
 
 pub returns-then-takes-clause-some : goal.returns-then-takes-clause-some
 returns-then-takes-clause-some c =
@@ -18,7 +19,9 @@ returns-then-takes-clause-some c =
     let spelled = subst (λ w. IsSpelled w (map string_bytes c.in_ok-options.field-0.rest.now) command) c.as_str.ensures.value c.in_ok-command.ensures.some in
     record {
       options = read.given;
-      is_command = subst (λ words. IsCommand words command read.given) (sym (ap (map string_bytes) c.in_ok-word.ensures.cases.0)) (command-of_parts _ _ _ (chosen c.in_ok-options.field-0.options) command read spelled c.in_ok-syntax.ensures.fits (c.takes.ensures.0 c.if-takes.true));
+      is_command =
+          subst (λ words. IsCommand words command read.given) (sym (ap (map string_bytes) c.in_ok-word.ensures.cases.0))
+          (command-of_parts _ _ _ (chosen c.in_ok-options.field-0.options) command read spelled c.in_ok-syntax.ensures.fits (c.takes.ensures.0 c.if-takes.true));
       settings_are = c.settings.ensures read.given read.chosen_is;
       syntax_is = c.in_ok-syntax.ensures.some ∙ ap chosen_syntax read.chosen_is;
     }
@@ -38,4 +41,5 @@ pub returns-in_err-syntax-clause-none : goal.returns-in_err-syntax-clause-none
 returns-in_err-syntax-clause-none c =
     let command = command_of c.in_ok-command.command in
     let spelled = subst (λ w. IsSpelled w (map string_bytes c.in_ok-options.field-0.rest.now) command) c.as_str.ensures.value c.in_ok-command.ensures.some in
-    if_none _ (subst IsNoCommand (sym (ap (map string_bytes) c.in_ok-word.ensures.cases.0)) (no_command-base _ _ _ (chosen c.in_ok-options.field-0.options) command c.in_ok-options.ensures.some spelled c.in_err-syntax.ensures.none))
+    if_none _ (subst IsNoCommand (sym (ap (map string_bytes) c.in_ok-word.ensures.cases.0))
+    (no_command-base _ _ _ (chosen c.in_ok-options.field-0.options) command c.in_ok-options.ensures.some spelled c.in_err-syntax.ensures.none))

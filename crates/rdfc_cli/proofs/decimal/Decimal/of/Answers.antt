@@ -9,7 +9,9 @@ loop-rest-preserved c =
       start = omega arith;
       length = search rules;
       fits = tenth_fits c.loop-rest.rest c.loop-rest.start c.loop-rest-test.true i.fits;
-      written = digit_written c.args.number c.loop-rest.rest c.loop-rest.start c.loop-rest.digits c.loop-rest-test.true (room c.loop-rest.rest c.loop-rest.start c.loop-rest-test.true i.fits) (omega arith) i.written;
+      written =
+          digit_written c.args.number c.loop-rest.rest c.loop-rest.start c.loop-rest.digits c.loop-rest-test.true (room c.loop-rest.rest c.loop-rest.start c.loop-rest-test.true i.fits)
+          (omega arith) i.written;
     }
 
 pub returns : goal.returns
