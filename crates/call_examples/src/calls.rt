@@ -62,8 +62,8 @@ fn call(
     requires node { node < length dataset.now.labels }
     requires fits { length dataset.now.labels ≤ u32.MAX }
     requires first { first.now ≡ first_degree_hashes (meaning DEFAULT) dataset.now }
-    requires room { ties.old.total ≤ budget.old.spent }
-    ensures room { ties.new.total ≤ budget.new.spent }
+    requires few_ties { ties.old.total ≤ budget.old.spent }
+    ensures few_ties { ties.new.total ≤ budget.new.spent }
 {
     let canon = Issuer::new(alloc, Prefix::Canonical);
     let mut issuer = Issuer::new(alloc, Prefix::Temporary);
@@ -171,6 +171,24 @@ fn a_call_ends_where_its_units_are_within_the_limit(rt: HostRuntime) -> Result<(
     assert_call(&rt, enough, 6);
     let too_few = first_call_of_text(rt.alloc(), keys, 5, None)?;
     assert_call(&rt, too_few, 5);
+    Ok(())
+}
+
+fn assert_text(rt: &impl Abort, alloc: Global, stop: Stop, want: &str) -> Result<(), Fail> {
+    let text = format!(in alloc; "{stop}")?;
+    assert_eq!(rt; text.as_str(), want);
+    Ok(())
+}
+
+#[test]
+fn a_stop_says_why(rt: HostRuntime) -> Result<(), Fail> {
+    let cases = [
+        (Stop::WorkLimit, "more units of work than the limit"),
+        (Stop::NoMemory, "out of memory"),
+    ];
+    for (stop, text) in cases {
+        assert_text(&rt, rt.alloc(), stop, text)?;
+    }
     Ok(())
 }
 

@@ -1,5 +1,6 @@
 //! What `compare` says of two files.
-use crate::ending::{Case, done, expect, nothing_written};
+use crate::ending::expect;
+use run_trials::{Trial, done, nothing_written, plain};
 use std::hash::RandomState;
 use std::test::Fail;
 
@@ -127,12 +128,10 @@ const FAULTY: &str = "<e:s> <e:p> <e:o> .
 <e:s> <e:p> .
 ";
 
-fn comparison<'a>(first: &'a str, second: &'a str) -> Case<'a> {
-    Case {
-        words: &["compare", "f", "g"],
-        first,
-        second,
-        failing: &[],
+fn comparison<'a>(text: &'a str, other: &'a str) -> Trial<'a> {
+    Trial {
+        other,
+        ..plain(&["compare", "f", "g"], text)
     }
 }
 
@@ -153,7 +152,14 @@ fn isomorphic_files_get_a_line_for_each_node(rt: HostRuntime) -> Result<(), Fail
         ),
     ];
     for (first, second, out) in cases {
-        expect(&rt, rt.alloc(), keys, &comparison(first, second), done(out))?;
+        expect(
+            &rt,
+            rt.alloc(),
+            keys,
+            &comparison(first, second),
+            None,
+            done(out),
+        )?;
     }
     Ok(())
 }
@@ -170,8 +176,15 @@ fn files_with_different_forms(rt: HostRuntime) -> Result<(), Fail> {
         (FOUR_AND_ONE, FOUR_AND_TWO, 9, "rdfc: undecided\n"),
     ];
     for (first, second, code, note) in cases {
-        let want = nothing_written(code, None, note);
-        expect(&rt, rt.alloc(), keys, &comparison(first, second), want)?;
+        let want = nothing_written(code, note);
+        expect(
+            &rt,
+            rt.alloc(),
+            keys,
+            &comparison(first, second),
+            None,
+            want,
+        )?;
     }
     Ok(())
 }
@@ -241,12 +254,12 @@ fn what_ends_a_comparison_names_its_file(rt: HostRuntime) -> Result<(), Fail> {
         ),
     ];
     for (words, first, second, code, file, note) in cases {
-        let case = Case {
+        let trial = Trial {
             words,
             ..comparison(first, second)
         };
-        let want = nothing_written(code, Some(file), note);
-        expect(&rt, rt.alloc(), keys, &case, want)?;
+        let want = nothing_written(code, note);
+        expect(&rt, rt.alloc(), keys, &trial, Some(file), want)?;
     }
     Ok(())
 }
@@ -267,18 +280,18 @@ fn a_read_that_fails_is_of_its_file(rt: HostRuntime) -> Result<(), Fail> {
         (7, 1, "rdfc: g: read failed\n"),
     ];
     for (call, file, note) in cases {
-        let case = Case {
-            failing: &[call],
+        let trial = Trial {
+            shelf: &[call],
             ..comparison(text, text)
         };
-        let want = nothing_written(5, Some(file), note);
-        expect(&rt, rt.alloc(), keys, &case, want)?;
+        let want = nothing_written(5, note);
+        expect(&rt, rt.alloc(), keys, &trial, Some(file), want)?;
     }
-    let untouched = Case {
-        failing: &[8],
+    let untouched = Trial {
+        shelf: &[8],
         ..comparison(text, text)
     };
-    expect(&rt, rt.alloc(), keys, &untouched, done(""))
+    expect(&rt, rt.alloc(), keys, &untouched, None, done(""))
 }
 
 #[test]
@@ -294,12 +307,9 @@ fn words_that_compare_no_two_files(rt: HostRuntime) -> Result<(), Fail> {
         &["compare", "--related", "once", "f", "g"],
     ];
     for words in cases {
-        let case = Case {
-            words,
-            ..comparison("", "")
-        };
-        let want = nothing_written(2, None, "rdfc: the words are not a command\n");
-        expect(&rt, rt.alloc(), keys, &case, want)?;
+        let trial = plain(words, "");
+        let want = nothing_written(2, "rdfc: the words are not a command\n");
+        expect(&rt, rt.alloc(), keys, &trial, None, want)?;
     }
     Ok(())
 }

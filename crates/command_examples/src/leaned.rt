@@ -1,5 +1,6 @@
 //! What `lean` writes of graphs (RDF 1.1 Semantics, section 5).
-use crate::ending::{Case, done, expect, nothing_written};
+use crate::ending::expect;
+use run_trials::{done, nothing_written, plain};
 use std::hash::RandomState;
 use std::test::Fail;
 
@@ -78,15 +79,6 @@ _:e4 <e:p> _:e2 .
 _:e4 <e:p> _:e3 .
 ";
 
-fn leaning<'a>(words: &'a [&'a str], text: &'a str) -> Case<'a> {
-    Case {
-        words,
-        first: text,
-        second: "",
-        failing: &[],
-    }
-}
-
 #[test]
 fn the_lean_graph_and_the_map_onto_it(rt: HostRuntime) -> Result<(), Fail> {
     let keys = RandomState::new(&rt)?;
@@ -123,7 +115,7 @@ fn the_lean_graph_and_the_map_onto_it(rt: HostRuntime) -> Result<(), Fail> {
         (&["lean", "--limit", "326", "f"], FIVE, LEAN_FIVE),
     ];
     for (words, text, out) in cases {
-        expect(&rt, rt.alloc(), keys, &leaning(words, text), done(out))?;
+        expect(&rt, rt.alloc(), keys, &plain(words, text), None, done(out))?;
     }
     Ok(())
 }
@@ -178,8 +170,8 @@ fn what_is_not_leaned(rt: HostRuntime) -> Result<(), Fail> {
         (&["canon", "--map", "f"], "", 2, None, wrong),
     ];
     for (words, text, code, file, note) in cases {
-        let want = nothing_written(code, file, note);
-        expect(&rt, rt.alloc(), keys, &leaning(words, text), want)?;
+        let want = nothing_written(code, note);
+        expect(&rt, rt.alloc(), keys, &plain(words, text), file, want)?;
     }
     Ok(())
 }

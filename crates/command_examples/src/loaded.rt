@@ -1,17 +1,9 @@
 //! What `load` says of the dataset that it makes from a number. The hashes were computed apart, by another program from
 //! the definitions.
-use crate::ending::{Case, done, expect, nothing_written};
+use crate::ending::expect;
+use run_trials::{done, nothing_written, plain};
 use std::hash::RandomState;
 use std::test::Fail;
-
-fn load<'a>(words: &'a [&'a str]) -> Case<'a> {
-    Case {
-        words,
-        first: "",
-        second: "",
-        failing: &[],
-    }
-}
 
 #[test]
 fn counts_and_a_hash(rt: HostRuntime) -> Result<(), Fail> {
@@ -39,7 +31,7 @@ fn counts_and_a_hash(rt: HostRuntime) -> Result<(), Fail> {
         ),
     ];
     for (words, out) in cases {
-        expect(&rt, rt.alloc(), keys, &load(words), done(out))?;
+        expect(&rt, rt.alloc(), keys, &plain(words, ""), None, done(out))?;
     }
     Ok(())
 }
@@ -66,8 +58,8 @@ fn what_is_not_made(rt: HostRuntime) -> Result<(), Fail> {
         ),
     ];
     for (words, code, file, note) in cases {
-        let want = nothing_written(code, file, note);
-        expect(&rt, rt.alloc(), keys, &load(words), want)?;
+        let want = nothing_written(code, note);
+        expect(&rt, rt.alloc(), keys, &plain(words, ""), file, want)?;
     }
     Ok(())
 }

@@ -1,5 +1,5 @@
 //! Small graphs, each held against a search through all maps of its nodes.
-use crate::ending::{Case, lines_written};
+use run_trials::{outcome_of, plain};
 use std::alloc::Global;
 use std::hash::RandomState;
 use std::process::Abort;
@@ -94,13 +94,15 @@ fn text_of(alloc: Global, graph: u32) -> Result<String, Fail> {
 // How many triples `lean` writes of the graph.
 fn lean_size(alloc: Global, keys: RandomState, graph: u32) -> Result<usize, Fail> {
     let text = text_of(alloc, graph)?;
-    let case = Case {
-        words: &["lean", "f"],
-        first: text.as_str(),
-        second: "",
-        failing: &[],
-    };
-    lines_written(alloc, keys, &case)
+    let ended = outcome_of(alloc, keys, &plain(&["lean", "f"], text.as_str()))?;
+    Ok(
+        ended
+            .ending()
+            .out
+            .iter()
+            .filter(|byte| **byte == b'\n')
+            .count(),
+    )
 }
 
 fn assert_size(rt: &impl Abort, size: usize, want: usize, graph: u32) {

@@ -1,23 +1,10 @@
 //! What a run answers, writes and notes, over a shelf and sinks in memory.
-use outside::{MemShelf, MemSink};
-use rdfc_cli::{Status, run};
+use rdfc_cli::Status;
+use run_trials::{Ended, Ending, Trial, done, nothing_written, outcome_of, plain};
 use std::alloc::Global;
 use std::hash::RandomState;
 use std::process::Abort;
 use std::test::Fail;
-
-const ROOM: usize = 4000;
-
-// A run on the file `f` of this text, in pieces of 7 bytes: the words, the calls on the shelf and
-// on the output that fail, and those on the notes.
-#[derive(Clone, Copy)]
-struct Case<'a> {
-    words: &'a [&'a str],
-    text: &'a str,
-    shelf: &'a [u64],
-    out: &'a [u64],
-    notes: &'a [u64],
-}
 
 // Two nodes with different first-degree hashes, and the canonical form: the example of unique
 // hashes of RDF Dataset Canonicalization.
@@ -130,83 +117,24 @@ _:e <e:p> _:f .
 _:f <e:p> _:d .
 ";
 
-// How a run ended, and what it wrote and noted.
-#[derive(Drop)]
-struct Ended {
-    status: Status,
-    out: MemSink,
-    notes: MemSink,
-}
-
-fn sink(alloc: Global, failing: &[u64]) -> Result<MemSink, Fail> {
-    Ok(MemSink::new(alloc, ROOM, 10, failing.to_vec(alloc)?)?)
-}
-
-fn outcome_of(alloc: Global, keys: RandomState, case: &Case<'_>) -> Result<Ended, Fail> {
-    let mut files = Vec::new(alloc);
-    let bytes = case.text.as_bytes().to_vec(alloc)?;
-    files.push((String::from_str(alloc, "f")?, bytes))?;
-    let mut shelf = MemShelf::new(files, 7, case.shelf.to_vec(alloc)?);
-    let mut words = Vec::new(alloc);
-    for word in case.words {
-        words.push(String::from_str(alloc, word)?)?;
-    }
-    let mut out = sink(alloc, case.out)?;
-    let mut notes = sink(alloc, case.notes)?;
-    let status = run(alloc, keys, &words, &mut shelf, &mut out, &mut notes);
-    Ok(Ended { status, out, notes })
-}
-
-// How a run has to end: the code of its status, what it writes and what it notes.
-#[derive(Clone, Copy)]
-struct Ending<'a> {
-    code: u8,
-    out: &'a str,
-    notes: &'a str,
-}
-
-fn done(out: &str) -> Ending<'_> {
-    Ending {
-        code: 0,
-        out,
-        notes: "",
-    }
-}
-
-fn nothing_written(code: u8, notes: &str) -> Ending<'_> {
-    Ending {
-        code,
-        out: "",
-        notes,
-    }
-}
-
-fn assert_ended(rt: &impl Abort, ended: &Ended, want: Ending<'_>, text: &str) {
-    assert_eq!(rt; ended.status.code(), want.code, "{text}");
-    assert_eq!(rt; ended.out.bytes(), want.out.as_bytes(), "{text}");
-    assert_eq!(rt; ended.notes.bytes(), want.notes.as_bytes(), "{text}");
+fn assert_ended(rt: &impl Abort, ended: &Ended, want: Ending<'_>, trial: &Trial<'_>) {
+    assert_eq!(rt; ended.ending(), want, "{:?} {}", trial.words, trial.text);
 }
 
 fn expect(
     rt: &impl Abort,
     alloc: Global,
     keys: RandomState,
-    case: &Case<'_>,
+    trial: &Trial<'_>,
     want: Ending<'_>,
 ) -> Result<(), Fail> {
-    let ended = outcome_of(alloc, keys, case)?;
-    assert_ended(rt, &ended, want, case.text);
+    let ended = outcome_of(alloc, keys, trial)?;
+    assert_ended(rt, &ended, want, trial);
     Ok(())
 }
 
-fn canon(text: &str) -> Case<'_> {
-    Case {
-        words: &["canon", "f"],
-        text,
-        shelf: &[],
-        out: &[],
-        notes: &[],
-    }
+fn canon(text: &str) -> Trial<'_> {
+    plain(&["canon", "f"], text)
 }
 
 #[test]
@@ -280,11 +208,7 @@ fn each_command_writes_its_text(rt: HostRuntime) -> Result<(), Fail> {
         ),
     ];
     for (words, text, out) in cases {
-        let case = Case {
-            words,
-            ..canon(text)
-        };
-        expect(&rt, rt.alloc(), keys, &case, done(out))?;
+        expect(&rt, rt.alloc(), keys, &plain(words, text), done(out))?;
     }
     Ok(())
 }
@@ -310,16 +234,12 @@ fn a_tie_that_is_not_joined_is_told(rt: HostRuntime) -> Result<(), Fail> {
         ),
     ];
     for (word, text, out) in cases {
-        let case = Case {
-            words: &[word, "f"],
-            ..canon(text)
-        };
         let want = Ending {
             code: 3,
-            out,
-            notes: "rdfc: f: a tie is unsettled\n",
+            out: out.as_bytes(),
+            notes: b"rdfc: f: a tie is unsettled\n",
         };
-        expect(&rt, rt.alloc(), keys, &case, want)?;
+        expect(&rt, rt.alloc(), keys, &plain(&[word, "f"], text), want)?;
     }
     Ok(())
 }
@@ -366,7 +286,7 @@ fn what_is_not_done_is_noted_and_nothing_is_written(rt: HostRuntime) -> Result<(
             4,
             "rdfc: f:2: IRI without a scheme\n",
         ),
-        (&["canon", "g"], "", &[], 5, "rdfc: g: read failed\n"),
+        (&["canon", "h"], "", &[], 5, "rdfc: h: read failed\n"),
         (
             &["canon", "f"],
             "<e:a> .",
@@ -397,12 +317,11 @@ fn what_is_not_done_is_noted_and_nothing_is_written(rt: HostRuntime) -> Result<(
         ),
     ];
     for (words, text, shelf, code, note) in cases {
-        let case = Case {
-            words,
+        let trial = Trial {
             shelf,
-            ..canon(text)
+            ..plain(words, text)
         };
-        expect(&rt, rt.alloc(), keys, &case, nothing_written(code, note))?;
+        expect(&rt, rt.alloc(), keys, &trial, nothing_written(code, note))?;
     }
     Ok(())
 }
@@ -413,11 +332,11 @@ fn a_read_that_fails_is_never_the_end_of_the_file(rt: HostRuntime) -> Result<(),
     // Twelve bytes in pieces of seven: the start, two pieces, and the call that finds the end.
     let want = nothing_written(5, "rdfc: f: read failed\n");
     for call in 0..4 {
-        let case = Case {
+        let trial = Trial {
             shelf: &[call],
             ..canon("# no quad\n\n\n")
         };
-        expect(&rt, rt.alloc(), keys, &case, want)?;
+        expect(&rt, rt.alloc(), keys, &trial, want)?;
     }
     Ok(())
 }
@@ -425,27 +344,27 @@ fn a_read_that_fails_is_never_the_end_of_the_file(rt: HostRuntime) -> Result<(),
 #[test]
 fn a_write_that_fails_leaves_a_front_of_the_text(rt: HostRuntime) -> Result<(), Fail> {
     let keys = RandomState::new(&rt)?;
-    let case = Case {
+    let trial = Trial {
         out: &[1],
         ..canon("<http://e/a> <http://e/p> <http://e/o> .\n")
     };
     let want = Ending {
         code: 6,
-        out: "<http://e/",
-        notes: "rdfc: write failed\n",
+        out: b"<http://e/",
+        notes: b"rdfc: write failed\n",
     };
-    expect(&rt, rt.alloc(), keys, &case, want)
+    expect(&rt, rt.alloc(), keys, &trial, want)
 }
 
 #[test]
 fn a_note_that_fails_changes_no_status(rt: HostRuntime) -> Result<(), Fail> {
     let keys = RandomState::new(&rt)?;
-    let case = Case {
+    let trial = Trial {
         notes: &[1],
         ..canon("no line")
     };
     let want = nothing_written(4, "rdfc: ");
-    expect(&rt, rt.alloc(), keys, &case, want)
+    expect(&rt, rt.alloc(), keys, &trial, want)
 }
 
 // Where an allocation of the run is refused, it ends with `NoMemory` and an untouched output.
@@ -453,13 +372,13 @@ fn a_note_that_fails_changes_no_status(rt: HostRuntime) -> Result<(), Fail> {
 #[test]
 fn want_of_memory_writes_nothing(rt: HostRuntime) -> Result<(), Fail> {
     let keys = RandomState::new(&rt)?;
-    let text = "_:x <e:p> \"v\" _:x .";
-    let ended = outcome_of(rt.alloc(), keys, &canon(text))?;
+    let trial = canon("_:x <e:p> \"v\" _:x .");
+    let ended = outcome_of(rt.alloc(), keys, &trial)?;
     let want = match ended.status {
         Status::NoMemory => nothing_written(8, "rdfc: out of memory\n"),
         _ => done("_:c14n0 <e:p> \"v\" _:c14n0 .\n"),
     };
-    assert_ended(&rt, &ended, want, text);
+    assert_ended(&rt, &ended, want, &trial);
     println!(rt; "{:?}", ended.status)?;
     Ok(())
 }

@@ -1,5 +1,6 @@
 //! What the commands write of files in TriG, and what their options may be.
-use crate::trial::{Ending, Trial, expect};
+use crate::trial::expect;
+use run_trials::{Trial, done, nothing_written, plain};
 use std::hash::RandomState;
 use std::test::Fail;
 
@@ -33,7 +34,7 @@ _:e1 <http://www.w3.org/1999/02/22-rdf-syntax-ns#first> _:e2 .
 _:e1 <http://www.w3.org/1999/02/22-rdf-syntax-ns#rest> <http://www.w3.org/1999/02/22-rdf-syntax-ns#nil> .
 ";
 
-// Anonymous nodes within one another, and a node with a label.
+// Anonymous blank nodes within one another, and one with a label.
 const NESTED: &str = "[ <e:p> [ <e:q> _:b ] ] <e:r> [] , ( <e:x> ) .";
 
 // The SHA-256 of the canonical form of the list.
@@ -95,16 +96,10 @@ fn each_command_reads_trig(rt: HostRuntime) -> Result<(), Fail> {
     ];
     for (words, text, out) in cases {
         let trial = Trial {
-            words,
-            text,
             other: "PREFIX : <e:> :x :p _:y .",
+            ..plain(words, text)
         };
-        let want = Ending {
-            code: 0,
-            out,
-            notes: "",
-        };
-        expect(&rt, rt.alloc(), keys, &trial, want)?;
+        expect(&rt, rt.alloc(), keys, &trial, done(out))?;
     }
     Ok(())
 }
@@ -168,18 +163,12 @@ fn a_file_in_trig_is_refused_by_its_name(rt: HostRuntime) -> Result<(), Fail> {
             "rdfc: f:1: not an N-Quads line\n",
         ),
     ];
-    for (words, text, code, notes) in cases {
+    for (words, text, code, note) in cases {
         let trial = Trial {
-            words,
-            text,
             other: "<e:s>\n\n",
+            ..plain(words, text)
         };
-        let want = Ending {
-            code,
-            out: "",
-            notes,
-        };
-        expect(&rt, rt.alloc(), keys, &trial, want)?;
+        expect(&rt, rt.alloc(), keys, &trial, nothing_written(code, note))?;
     }
     Ok(())
 }
@@ -204,17 +193,8 @@ fn a_base_is_an_iri_and_comes_with_trig(rt: HostRuntime) -> Result<(), Fail> {
         &["load", "--trig", "--base", "e:", "1"],
     ];
     for words in cases {
-        let trial = Trial {
-            words,
-            text: "",
-            other: "",
-        };
-        let want = Ending {
-            code: 2,
-            out: "",
-            notes: "rdfc: the words are not a command\n",
-        };
-        expect(&rt, rt.alloc(), keys, &trial, want)?;
+        let want = nothing_written(2, "rdfc: the words are not a command\n");
+        expect(&rt, rt.alloc(), keys, &plain(words, ""), want)?;
     }
     Ok(())
 }

@@ -1,9 +1,7 @@
 -- Valid quads, and the nodes of a draft.
 use Rattle.std.proofs.Common.{◌≡◌, ℕ, zero, suc, ◌<◌, ◌≤◌, ◌+◌, false, List, [], ◌∷◌, None, All, length, refl, inl, inr, sym, ap, subst, arith, length-append}
 use Rattle.std.proofs.lemmas.Option.{slice_get_within}
-use Rattle.rdf_terms.specs.Lists.{Text}
-use Rattle.rdf_terms.specs.Terms.{IsIri, IsIriOrBlank, IsValidTerm, IsValidStatement, IsAbsoluteIri, is_excluded}
-use Rattle.rdf_terms.specs.Document.{Interns}
+use Rattle.rdf_terms.proofs.Common.{Text, IsIri, IsIriOrBlank, IsValidTerm, IsValidStatement, IsAbsoluteIri, is_excluded, Interns}
 use Rattle.rdf_terms.specs.declared.term.Term.{Term}
 use Rattle.rdf_terms.specs.declared.term.Term.TheVariants.{Iri, Blank, Literal}
 

@@ -1,4 +1,4 @@
-// The arrangements of small bags.
+//! The arrangements of small bags.
 use arrangements::Arrangement;
 use std::test::Fail;
 

@@ -1,4 +1,4 @@
-// The shelf and the sinks: those in memory fail at the calls they are told, and those over std do what std does.
+//! The shelf and the sinks: those in memory fail at the calls they are told, and those over std do what std does.
 ghost use Rattle.std.specs.Prelude.{◌≤◌};
 
 use outside::{Failed, FileShelf, MemShelf, MemSink, Shelf, Sink, StdSink};

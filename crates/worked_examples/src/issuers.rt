@@ -1,4 +1,4 @@
-// What an issuer answers: places, copies, marks.
+//! What an issuer answers: places, copies, marks.
 use id_issuer::Issuer;
 use rdf_terms::Prefix;
 use std::test::Fail;

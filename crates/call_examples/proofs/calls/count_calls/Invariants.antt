@@ -3,5 +3,5 @@ use Rattle.call_examples.proofs.calls.count_calls.Given as goal
 
 abbrev pub invariant-loop-node : goal.invariant-loop-node
 invariant-loop-node l = record {
-  room : l.ties.total ≤ l.budget.spent;
+  few_ties : l.ties.total ≤ l.budget.spent;
 }
