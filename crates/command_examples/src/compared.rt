@@ -1,13 +1,9 @@
 //! What `compare` says of two files.
 use crate::ending::expect;
+use run_trials::documents::{PAIR, RING, TURNED, TWO_RINGS};
 use run_trials::{Trial, done, nothing_written, plain};
 use std::hash::RandomState;
 use std::test::Fail;
-
-// Two nodes that point at each other.
-const PAIR: &str = "_:a <e:p> _:b .
-_:b <e:p> _:a .
-";
 
 const OTHER_PAIR: &str = "_:x <e:p> _:y .
 _:y <e:p> _:x .
@@ -85,12 +81,6 @@ _:b2 <http://www.w3.org/1999/02/22-rdf-syntax-ns#type> <http://e/vc#Member> .
 <urn:uuid:c1> <http://www.w3.org/1999/02/22-rdf-syntax-ns#type> <https://www.w3.org/2018/credentials#VerifiableCredential> .
 ";
 
-// Three quads with a tie that is not joined.
-const OPEN: &str = "_:a <e:p> _:b _:c .
-_:b <e:p> _:c _:a .
-_:c <e:p> _:a _:b .
-";
-
 // Four quads with a tie that is not joined, and a literal.
 const FOUR_AND_ONE: &str = "_:s0 <e:p> _:o0 _:g0 .
 _:s0 <e:p> _:o1 _:g1 .
@@ -104,23 +94,6 @@ _:s0 <e:p> _:o1 _:g1 .
 _:s1 <e:p> _:o0 _:g1 .
 _:s1 <e:p> _:o1 _:g0 .
 <e:x> <e:p> \"2\" .
-";
-
-// A ring of six nodes, whose run has 108 units, and two of three, with 54.
-const RING: &str = "_:a <e:p> _:b .
-_:b <e:p> _:c .
-_:c <e:p> _:d .
-_:d <e:p> _:e .
-_:e <e:p> _:f .
-_:f <e:p> _:a .
-";
-
-const TWO_RINGS: &str = "_:a <e:p> _:b .
-_:b <e:p> _:c .
-_:c <e:p> _:a .
-_:d <e:p> _:e .
-_:e <e:p> _:f .
-_:f <e:p> _:d .
 ";
 
 // The second line has no object.
@@ -144,7 +117,7 @@ fn isomorphic_files_get_a_line_for_each_node(rt: HostRuntime) -> Result<(), Fail
         (PAIR, OTHER_PAIR, "_:a _:x\n_:b _:y\n"),
         (PERSON, TURNED_PERSON, "_:ada _:b1\n_:town _:b0\n"),
         (TURNED_PERSON, PERSON, "_:b0 _:town\n_:b1 _:ada\n"),
-        (OPEN, OPEN, "_:a _:a\n_:b _:b\n_:c _:c\n"),
+        (TURNED, TURNED, "_:a _:a\n_:b _:b\n_:c _:c\n"),
         (
             CREDENTIAL,
             TURNED_CREDENTIAL,
@@ -172,7 +145,7 @@ fn files_with_different_forms(rt: HostRuntime) -> Result<(), Fail> {
         (PERSON, MOVED_PERSON, 1, "rdfc: not isomorphic\n"),
         (RING, TWO_RINGS, 1, "rdfc: not isomorphic\n"),
         // One of the two runs has no open tie.
-        (OPEN, PAIR, 1, "rdfc: not isomorphic\n"),
+        (TURNED, PAIR, 1, "rdfc: not isomorphic\n"),
         (FOUR_AND_ONE, FOUR_AND_TWO, 9, "rdfc: undecided\n"),
     ];
     for (first, second, code, note) in cases {

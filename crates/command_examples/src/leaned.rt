@@ -1,5 +1,6 @@
 //! What `lean` writes of graphs (RDF 1.1 Semantics, section 5).
 use crate::ending::expect;
+use run_trials::documents::{FIVE, PAIR};
 use run_trials::{done, nothing_written, plain};
 use std::hash::RandomState;
 use std::test::Fail;
@@ -27,34 +28,6 @@ _:d <e:q> \"v\" .
 
 const NAMES: &str = "<e:a> <e:p> <e:b> .
 <e:a> <e:p> \"v\"@en .
-";
-
-// Two nodes that point at each other.
-const PAIR: &str = "_:a <e:p> _:b .
-_:b <e:p> _:a .
-";
-
-// Each of five nodes points at each other one.
-const FIVE: &str = "_:a <e:p> _:b .
-_:a <e:p> _:c .
-_:a <e:p> _:d .
-_:a <e:p> _:e .
-_:b <e:p> _:a .
-_:b <e:p> _:c .
-_:b <e:p> _:d .
-_:b <e:p> _:e .
-_:c <e:p> _:a .
-_:c <e:p> _:b .
-_:c <e:p> _:d .
-_:c <e:p> _:e .
-_:d <e:p> _:a .
-_:d <e:p> _:b .
-_:d <e:p> _:c .
-_:d <e:p> _:e .
-_:e <e:p> _:a .
-_:e <e:p> _:b .
-_:e <e:p> _:c .
-_:e <e:p> _:d .
 ";
 
 const LEAN_FIVE: &str = "_:e0 <e:p> _:e1 .

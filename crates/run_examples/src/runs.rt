@@ -1,5 +1,6 @@
 //! What a run answers, writes and notes, over a shelf and sinks in memory.
 use rdfc_cli::Status;
+use run_trials::documents::{FIVE, PAIR, RING, TURNED, TWO_RINGS};
 use run_trials::{Ended, Ending, Trial, done, nothing_written, outcome_of, plain};
 use std::alloc::Global;
 use std::hash::RandomState;
@@ -28,11 +29,6 @@ const LONG_HASH_OF_NOTHING: &str =
     "38b060a751ac96384cd9327eb1b1e36a21fdb71114be07434c0cc7bf63f6e1da274edebfe76f65fbd51ad2f14898b95b
 ";
 
-// Two nodes that point at each other.
-const PAIR: &str = "_:a <e:p> _:b .
-_:b <e:p> _:a .
-";
-
 const NAMED_PAIR: &str = "_:c14n0 <e:p> _:c14n1 .
 _:c14n1 <e:p> _:c14n0 .
 ";
@@ -47,29 +43,6 @@ _:b <e:p> _:a <e:h> .
 // Two nodes that each point at themselves.
 const LOOPS: &str = "_:a <e:p> _:a .
 _:b <e:p> _:b .
-";
-
-// Each of five nodes points at each other one.
-const FIVE: &str = "_:a <e:p> _:b .
-_:a <e:p> _:c .
-_:a <e:p> _:d .
-_:a <e:p> _:e .
-_:b <e:p> _:a .
-_:b <e:p> _:c .
-_:b <e:p> _:d .
-_:b <e:p> _:e .
-_:c <e:p> _:a .
-_:c <e:p> _:b .
-_:c <e:p> _:d .
-_:c <e:p> _:e .
-_:d <e:p> _:a .
-_:d <e:p> _:b .
-_:d <e:p> _:c .
-_:d <e:p> _:e .
-_:e <e:p> _:a .
-_:e <e:p> _:b .
-_:e <e:p> _:c .
-_:e <e:p> _:d .
 ";
 
 // Each of three nodes points at each other one, in two graphs.
@@ -92,29 +65,6 @@ const FOUR: &str = "_:s0 <e:p> _:o0 _:g0 .
 _:s0 <e:p> _:o1 _:g1 .
 _:s1 <e:p> _:o0 _:g1 .
 _:s1 <e:p> _:o1 _:g0 .
-";
-
-// Three quads, of which the standard allows two canonical forms.
-const TURNED: &str = "_:a <e:p> _:b _:c .
-_:b <e:p> _:c _:a .
-_:c <e:p> _:a _:b .
-";
-
-// A ring of six nodes, and two of three.
-const RING: &str = "_:a <e:p> _:b .
-_:b <e:p> _:c .
-_:c <e:p> _:d .
-_:d <e:p> _:e .
-_:e <e:p> _:f .
-_:f <e:p> _:a .
-";
-
-const TWO_RINGS: &str = "_:a <e:p> _:b .
-_:b <e:p> _:c .
-_:c <e:p> _:a .
-_:d <e:p> _:e .
-_:e <e:p> _:f .
-_:f <e:p> _:d .
 ";
 
 fn assert_ended(rt: &impl Abort, ended: &Ended, want: Ending<'_>, trial: &Trial<'_>) {

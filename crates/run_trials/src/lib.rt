@@ -1,6 +1,8 @@
 //! Runs on files in memory: what the tests of the commands are made of.
 #![tactic(auto)]
 
+pub mod documents;
+
 use outside::{MemShelf, MemSink};
 use rdf_terms::NoMemory;
 use rdfc_cli::{Status, run};
