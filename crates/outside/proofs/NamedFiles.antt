@@ -30,7 +30,9 @@ find-map f p (x ∷ xs) = elim (p (f x)) as (λ b. cond b (Some (f x)) (find p (
 -- a search and a position find the same element
 pub find-position : {X : Type 0} (p : X → Bool) (xs : List X) → MatchOption (position p xs) (find p xs ≡ None) (λ i. find p xs ≡ slice_get xs i)
 find-position p xs =
-    elim (nat_lt (position_or_len p xs) (length xs)) as (λ b. nat_lt (position_or_len p xs) (length xs) ≡ b → MatchOption (cond b (Some (position_or_len p xs)) None) (find p xs ≡ None) (λ i. find p xs ≡ slice_get xs i)) [
+    elim (nat_lt (position_or_len p xs) (length xs))
+    as (λ b. nat_lt (position_or_len p xs) (length xs) ≡ b
+    → MatchOption (cond b (Some (position_or_len p xs)) None) (find p xs ≡ None) (λ i. find p xs ≡ slice_get xs i)) [
       | true ↦ λ _. find_at p xs
       | false ↦ λ past. find_at p xs ∙ slice_get_past xs (position_or_len p xs) (ltb-false (position_or_len p xs) (length xs) past)
     ] refl
@@ -40,7 +42,9 @@ not_found p xs e = subst (λ o. MatchOption o (find p xs ≡ None) (λ i. find p
 
 pub found_there : {X : Type 0} (p : X → Bool) (xs : List X) (i : ℕ) → Some i ≡ position p xs → (x : X) × (find p xs ≡ Some x) × (slice_get xs i ≡ Some x)
 found_there p xs i e =
-    elim (nat_lt (position_or_len p xs) (length xs)) as (λ b. nat_lt (position_or_len p xs) (length xs) ≡ b → Some i ≡ cond b (Some (position_or_len p xs)) None → (x : _) × (find p xs ≡ Some x) × (slice_get xs i ≡ Some x)) [
+    elim (nat_lt (position_or_len p xs) (length xs))
+    as (λ b. nat_lt (position_or_len p xs) (length xs) ≡ b
+    → Some i ≡ cond b (Some (position_or_len p xs)) None → (x : _) × (find p xs ≡ Some x) × (slice_get xs i ≡ Some x)) [
       | true ↦ λ within here. let same : i ≡ position_or_len p xs = cc in
           elim (slice_get_cases xs (position_or_len p xs)).1 [
             | inl w ↦ (w.0, find_at p xs ∙ w.2, ap (slice_get xs) same ∙ w.2)
@@ -50,7 +54,8 @@ found_there p xs i e =
     ] refl e
 
 -- a file of this name was found at a place
-found_at : {A B : Type 0} (files : List (String A × Vec ℕ B)) (name : List ℕ) (i : ℕ) (file : String A × Vec ℕ B) → find (λ f. bytes_eq (string_bytes f.0) name) files ≡ Some file → slice_get files i ≡ Some file
+found_at : {A B : Type 0} (files : List (String A × Vec ℕ B)) (name : List ℕ) (i : ℕ) (file : String A × Vec ℕ B) → find (λ f. bytes_eq (string_bytes f.0) name) files ≡ Some file
+    → slice_get files i ≡ Some file
     → IsFileAt (files_of files) name i
 found_at files name i file found at =
     let named : string_bytes file.0 ≡ name = (bytes_eq-Decides (string_bytes file.0) name).0 (find_passes (λ f. bytes_eq (string_bytes f.0) name) files file found) in
@@ -63,7 +68,9 @@ found_at files name i file found at =
 -- the place that a search by name gave
 pub placed : {A B : Type 0} (files read : List (String A × Vec ℕ B)) (name : List ℕ) (place : Option ℕ) → read ≡ files → place ≡ position (λ f. bytes_eq (string_bytes f.0) name) read
     → MatchOption place (bytes_of (files_of files) name ≡ None) (IsFileAt (files_of files) name)
-placed files read name None same e' = let e = e' ∙ ap (position (λ f. bytes_eq (string_bytes f.0) name)) same in ap (option_map (λ f. f.bytes)) (find-map file_of (λ f. bytes_eq f.name name) files ∙ ap (option_map file_of) (not_found (λ f. bytes_eq (string_bytes f.0) name) files e))
+placed files read name None same e' =
+    let e = e' ∙ ap (position (λ f. bytes_eq (string_bytes f.0) name)) same in
+    ap (option_map (λ f. f.bytes)) (find-map file_of (λ f. bytes_eq f.name name) files ∙ ap (option_map file_of) (not_found (λ f. bytes_eq (string_bytes f.0) name) files e))
 placed files read name (Some i) same e' =
     let e = e' ∙ ap (position (λ f. bytes_eq (string_bytes f.0) name)) same in
     let p = found_there (λ f. bytes_eq (string_bytes f.0) name) files i e in
@@ -97,12 +104,14 @@ pub starts : (plan : FaultPlan) (files : List MemoryFile) (name : List ℕ) (fai
 starts plan files name fails i told passes there (inl next) = cc (told next)
 starts plan files name fails i told passes there (inr none) = cc (there.told)
 
-pub gives_piece : {A B : Type 0} (files : List (String A × Vec ℕ B)) (file : String A × Vec ℕ B) (bytes : List ℕ) (i given n piece : ℕ) (buf : List ℕ) → file ≡ get_or files i file → bytes ≡ file.1.items
+pub gives_piece : {A B : Type 0} (files : List (String A × Vec ℕ B)) (file : String A × Vec ℕ B) (bytes : List ℕ) (i given n piece : ℕ) (buf : List ℕ)
+    → file ≡ get_or files i file → bytes ≡ file.1.items
     → IsPlaceIn (files_of files) (record { file = i; given = given }) → 0 < piece
     → n ≡ min piece (min (length buf) (length (take (length bytes - given) (drop given bytes)))) → take n buf ≡ take n (take (length bytes - given) (drop given bytes))
     → Takes {E = ℕ} (rest_from (files_of files) i given) (rest_from (files_of files) i (given + n)) (Ok n) buf
 gives_piece files file bytes i given n piece buf read is place some amount copied =
-    let all : take (length bytes - given) (drop given bytes) ≡ drop given file.1.items = take_all (length bytes - given) (drop given bytes) (omega (arith, length-drop given bytes)) ∙ ap (drop given) is in
+    let all : take (length bytes - given) (drop given bytes) ≡ drop given file.1.items =
+    take_all (length bytes - given) (drop given bytes) (omega (arith, length-drop given bytes)) ∙ ap (drop given) is in
     let within : i < length files = omega (arith, place.there, length-map files file_of) in
     gives (files_of files) i given n piece (file_of file) buf (slice_get-map file_of files i ∙ ap (option_map file_of) (slice_get_read files (length files) i file refl within read))
     some (amount ∙ ap (λ l. min piece (min (length buf) (length l))) all) (copied ∙ ap (take n) all)

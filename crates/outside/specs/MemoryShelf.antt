@@ -78,7 +78,8 @@ module _ {A B : Type 0} where
 
 -- what is started where so many bytes of the file at a place were given
 abbrev pub started_at : List MemoryFile → Place → Option StartedFile
-started_at files place = option_map (λ file. unread file.name (drop place.given file.bytes)) (slice_get files place.file)
+started_at files place =
+    option_map (λ file. unread file.name (drop place.given file.bytes)) (slice_get files place.file)
 
 -- there is a file at the place, and it has as many bytes
 pub record IsPlaceIn (files : List MemoryFile) (place : Place) : Type 0 where

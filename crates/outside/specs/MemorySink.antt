@@ -21,7 +21,10 @@ abbrev pub amount_taken : MemorySink → List ℕ → ℕ
 amount_taken sink bytes = min sink.piece (min (room_left sink) (length bytes))
 
 abbrev pub after_put : MemorySink → List ℕ → MemorySink
-after_put sink bytes = record sink { taken = sink.taken ++ take (amount_taken sink bytes) bytes; plan = after_call sink.plan }
+after_put sink bytes = record sink {
+  taken = sink.taken ++ take (amount_taken sink bytes) bytes;
+  plan = after_call sink.plan;
+}
 
 abbrev pub after_failed_put : MemorySink → MemorySink
 after_failed_put sink = record sink { plan = after_fault sink.plan }

@@ -6,4 +6,6 @@ use Rattle.std.specs.Io.KnownBytes.{Consumes, IsAtEnd}
 -- came for a buffer with room only at the end. At `Err` what is left is not told.
 abbrev pub Takes : {E : Type 0} → Option (List ℕ) → Option (List ℕ) → Result ℕ E → List ℕ → Type 0
 Takes before now result buf =
-    MatchResult result (λ n. Consumes before now (take n buf) × (n ≡ 0 → 0 < length buf → IsAtEnd now)) (λ _. now ≡ None)
+    MatchResult result
+    (λ n. Consumes before now (take n buf) × (n ≡ 0 → 0 < length buf → IsAtEnd now))
+    (λ _. now ≡ None)

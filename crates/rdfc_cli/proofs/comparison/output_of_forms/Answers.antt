@@ -11,7 +11,8 @@ output_of_verdict-requires c =
     let verdict = c.in-Ok.verdict in
     subst (λ labels. HasNodesBelow (length labels) (length c.deref-in-Ok.result.now) verdict) (sym c.deref.ensures.value)
     (subst (λ labels. HasNodesBelow (length first.labels.items) (length labels) verdict) (sym c.deref-in-Ok.ensures.value)
-    (forms-nodes_below c.args.settings first second c.requires.first.0 c.requires.second.0 c.requires.first.1 c.requires.second.1 c.in-Some.canon c.in-Some-other.other c.in-Some.is c.in-Some-other.is verdict c.in-Ok.ensures))
+    (forms-nodes_below c.args.settings first second c.requires.first.0 c.requires.second.0 c.requires.first.1 c.requires.second.1
+    c.in-Some.canon c.in-Some-other.other c.in-Some.is c.in-Some-other.is verdict c.in-Ok.ensures))
 
 pub returns-in-Ok-clause-output : goal.returns-in-Ok-clause-output
 returns-in-Ok-clause-output c =
@@ -20,4 +21,5 @@ returns-in-Ok-clause-output c =
     let verdict = c.in-Ok.verdict in
     if_ok c.output_of_verdict.result (λ output o content other f g.
     forms-output c.args.settings first second content other f g c.in-Some.canon c.in-Some-other.other c.in-Some.is c.in-Some-other.is verdict c.in-Ok.ensures output
-    (subst (λ labels. IsVerdictOutput labels second.labels.items verdict output) c.deref.ensures.value (subst (λ labels. IsVerdictOutput c.deref.result.now labels verdict output) c.deref-in-Ok.ensures.value o))) c.output_of_verdict.ensures.output
+    (subst (λ labels. IsVerdictOutput labels second.labels.items verdict output) c.deref.ensures.value
+    (subst (λ labels. IsVerdictOutput c.deref.result.now labels verdict output) c.deref-in-Ok.ensures.value o))) c.output_of_verdict.ensures.output

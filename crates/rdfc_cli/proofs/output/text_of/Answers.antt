@@ -10,11 +10,13 @@ use Rattle.rdfc_cli.proofs.output.text_of.Goals.{in-Hash+in_ok-text-in-Hash, in-
 
 pub map_of_names-requires-clause-nodes : goal.map_of_names-requires-clause-nodes
 map_of_names-requires-clause-nodes c = λ n i.
-    ((canonical_lists_are_complete (meaning c.args.canon.profile) (dataset c.args.dataset.now) c.requires.bytes.valid c.args.canon.order c.requires.order_allowed).0 n).0 (subst (λ l. In n l) c.as_slice.ensures i)
+    ((canonical_lists_are_complete (meaning c.args.canon.profile) (dataset c.args.dataset.now) c.requires.bytes.valid c.args.canon.order c.requires.order_allowed).0 n).0
+    (subst (λ l. In n l) c.as_slice.ensures i)
 
 pub map_of_names-requires-clause-once : goal.map_of_names-requires-clause-once
 map_of_names-requires-clause-once c =
-    subst AreDistinct (sym c.as_slice.ensures) (canonical_lists_are_complete (meaning c.args.canon.profile) (dataset c.args.dataset.now) c.requires.bytes.valid c.args.canon.order c.requires.order_allowed).1
+    subst AreDistinct (sym c.as_slice.ensures)
+    (canonical_lists_are_complete (meaning c.args.canon.profile) (dataset c.args.dataset.now) c.requires.bytes.valid c.args.canon.order c.requires.order_allowed).1
 
 pub report_of_ties-requires : goal.report_of_ties-requires
 report_of_ties-requires c = nodes_of_first (meaning c.args.canon.profile) (dataset c.args.dataset.now) c.args.canon.unsettled c.requires.unsettled

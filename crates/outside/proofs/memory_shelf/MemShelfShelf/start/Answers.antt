@@ -6,7 +6,8 @@ use Rattle.outside.proofs.memory_shelf.MemShelfShelf.start.Goals.{in_default-via
 pub returns-in-Some-clause-fails : goal.returns-in-Some-clause-fails
 returns-in-Some-clause-fails c =
     let there = placed c.self.inside.files.items c.deref.result.now c.args.name.now (Some c.in-Some.file) c.deref.ensures.value c.in-Some.ensures in
-    rw (← c.self.view_is) (λ never. cc, λ fails. absurd (starts c.self.inside.calls _ c.args.name.now c.count-fails.result c.in-Some.file c.count-fails.ensures.fails.1 c.if-not-fails.true there fails))
+    rw (← c.self.view_is)
+    (λ never. cc, λ fails. absurd (starts c.self.inside.calls _ c.args.name.now c.count-fails.result c.in-Some.file c.count-fails.ensures.fails.1 c.if-not-fails.true there fails))
 
 pub returns-in-Some-clause-ok : goal.returns-in-Some-clause-ok
 returns-in-Some-clause-ok c =
