@@ -1,0 +1,4 @@
+pub mod Ground
+pub mod Laws
+pub mod Lines
+pub mod Parts
