@@ -1,0 +1,5 @@
+pub mod Numbering
+pub mod Along
+pub mod Openness
+pub mod OneForm
+pub mod SharedOutputs
