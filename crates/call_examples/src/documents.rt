@@ -31,6 +31,25 @@ _:b2 <e:next> _:b3 .
 _:b3 <e:next> _:b4 .
 ";
 
+// Two subjects, two objects and two graph names, in four quads: a tie of the run is not joined.
+pub(crate) const FOUR_QUADS: &str = "_:s0 <e:p> _:o0 _:g0 .
+_:s0 <e:p> _:o1 _:g1 .
+_:s1 <e:p> _:o0 _:g1 .
+_:s1 <e:p> _:o1 _:g0 .
+";
+
+// The Latin square of order 3: rows, columns and entries as subjects, objects and graph names.
+pub(crate) const LATIN_SQUARE: &str = "_:r0 <e:p> _:c0 _:e0 .
+_:r0 <e:p> _:c1 _:e1 .
+_:r0 <e:p> _:c2 _:e2 .
+_:r1 <e:p> _:c0 _:e1 .
+_:r1 <e:p> _:c1 _:e2 .
+_:r1 <e:p> _:c2 _:e0 .
+_:r2 <e:p> _:c0 _:e2 .
+_:r2 <e:p> _:c1 _:e0 .
+_:r2 <e:p> _:c2 _:e1 .
+";
+
 pub(crate) fn dataset_of(alloc: Global, keys: RandomState, text: &str) -> Result<Dataset, Fail> {
     if text.len() > 1000 {
         return Err(Fail::from("a text is too long for these examples"));

@@ -9,3 +9,5 @@ mod documents;
 mod forms;
 #[cfg(test)]
 mod groups;
+#[cfg(test)]
+mod outputs;

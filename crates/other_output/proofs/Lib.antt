@@ -2,6 +2,7 @@ mod AnonymousNodes
 mod InTurn
 mod Moved
 mod OrderAlong
-mod Verdicts
-mod OneForm
 mod Outputs
+mod OneForm
+mod Verdicts
+mod Telling

@@ -6,9 +6,9 @@ use Rattle.rdf_terms.specs.declared.term.Quad.{Quad}
 use Rattle.rdf_terms.specs.declared.term.Label.{Label}
 use Rattle.rdf_terms.specs.declared.term.Label.TheVariants.{Anonymous}
 use Rattle.other_output.proofs.AnonymousNodes.{length-anonymous}
-use Rattle.rdf_terms.proofs.Common.{In, AreDistinct, Dataset, Document, IsDocument, IsUsed, IsValidStatement, Permutes, Relabelling, Statement, dataset, statement, statements, numbers_below, place_of, relabel_statement, In-map, All-from_each, each-from_All, AreDistinct-map, map-map, AreDistinct-numbers_below, In-numbers_below, from_In-numbers_below, get_or-numbers_below, length-numbers_below}
+use Rattle.rdf_terms.proofs.Common.{In, AreDistinct, Dataset, Document, IsDocument, IsUsed, IsValidStatement, Permutes, Relabelling, Statement, dataset, statement, statements, numbers_below, place_of, relabel_statement, In-map, All-from_each, each-from_All, map-map, AreDistinct-numbers_below, In-numbers_below, from_In-numbers_below, get_or-numbers_below, length-numbers_below}
 use Rattle.rdf_terms.proofs.Finishing.{mentions-relabelled, mentioned_low, IsValidStatement-relabelled}
-use Rattle.canon_model.proofs.Equivariance.{relabel_statement-back}
+use Rattle.canon_model.proofs.Equivariance.{AreDistinct-map, relabel_statement-back}
 use Rattle.canonical_writer.specs.Determined.{CarriesLists, ListsNodes}
 use Rattle.canonical_writer.proofs.Placing.{place-here, place-found}
 use Rattle.canonical_writer.proofs.Partners.{partner, partners, map-partner, length-listed}
@@ -63,9 +63,7 @@ module _ (d : Document) (c : List ℕ) (doc : IsDocument d) (l : ListsNodes (len
       (IsValidStatement-relabelled nodes st (valid_at st (In-map (statement d.terms) d.quads q i)) to nodes (λ n h m. way.to_node n h)))
 
   pub distinct_moved : AreDistinct (map (moved d.terms c) d.quads)
-  distinct_moved = subst AreDistinct (sym are_relabelled) (AreDistinct-map (relabel_statement to) (statements d)
-      (λ a b i j e. sym (relabel_statement-back from to way.from-to a) ∙ ap (relabel_statement from) e ∙ relabel_statement-back from to way.from-to b)
-      doc.draft.distinct)
+  distinct_moved = subst AreDistinct (sym are_relabelled) (AreDistinct-map (relabel_statement to) (relabel_statement from) (relabel_statement-back from to way.from-to) (statements d) doc.draft.distinct)
 
   used_before : (n : ℕ) → n < nodes → IsUsed (map (relabel_statement to) (statements d)) n
   used_before n h =

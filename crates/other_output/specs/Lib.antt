@@ -1,5 +1,6 @@
 pub mod Numbering
 pub mod Along
-pub mod Openness
-pub mod OneForm
 pub mod SharedOutputs
+pub mod OneForm
+pub mod Openness
+pub mod Answers
