@@ -6,3 +6,9 @@ mod Outputs
 mod OneForm
 mod Verdicts
 mod Telling
+mod IssuedFronts
+mod EarlierClasses
+mod OtherResultFirst
+mod FirstStart
+mod NumberedClasses
+mod AlongNewResults

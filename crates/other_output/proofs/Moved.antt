@@ -63,7 +63,8 @@ module _ (d : Document) (c : List ℕ) (doc : IsDocument d) (l : ListsNodes (len
       (IsValidStatement-relabelled nodes st (valid_at st (In-map (statement d.terms) d.quads q i)) to nodes (λ n h m. way.to_node n h)))
 
   pub distinct_moved : AreDistinct (map (moved d.terms c) d.quads)
-  distinct_moved = subst AreDistinct (sym are_relabelled) (AreDistinct-map (relabel_statement to) (relabel_statement from) (relabel_statement-back from to way.from-to) (statements d) doc.draft.distinct)
+  distinct_moved = subst AreDistinct (sym are_relabelled)
+      (AreDistinct-map (relabel_statement to) (relabel_statement from) (relabel_statement-back from to way.from-to) (statements d) doc.draft.distinct)
 
   used_before : (n : ℕ) → n < nodes → IsUsed (map (relabel_statement to) (statements d)) n
   used_before n h =
@@ -100,7 +101,8 @@ module _ (d : Document) (c : List ℕ) (doc : IsDocument d) (l : ListsNodes (len
     pub distinct_of_these : AreDistinct (map (moved ts c) qs)
     distinct_of_these = subst (λ us. AreDistinct (map (moved us c) qs)) (sym ts_are) (subst (λ rs. AreDistinct (map (moved d.terms c) rs)) (sym qs_are) distinct_moved)
 
-    pub valid_of_these : (labels : List Label) (count : ℕ) → count ≡ length d.labels → labels ≡ map Anonymous (numbers_below count) → All (λ q. IsValidStatement (length labels) (moved ts c q)) qs
+    pub valid_of_these : (labels : List Label) (count : ℕ) → count ≡ length d.labels → labels ≡ map Anonymous (numbers_below count)
+        → All (λ q. IsValidStatement (length labels) (moved ts c q)) qs
     valid_of_these labels count e is =
         let n : length labels ≡ length d.labels = ap length is ∙ length-anonymous count ∙ e in
         subst (λ us. All (λ q. IsValidStatement (length labels) (moved us c q)) qs) (sym ts_are)

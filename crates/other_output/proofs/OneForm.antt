@@ -1,19 +1,19 @@
 -- Datasets whose nodes are numbered along one list have the same quads, and so one form.
-use Rattle.std.proofs.Common.{◌≡◌, ℕ, ◌<◌, List, map, sym, ap, subst, ◌∙◌}
+use Rattle.std.proofs.Common.{◌≡◌, ℕ, ◌<◌, ◌≤◌, List, map, sym, ap, subst, ◌∙◌, arith}
 use Rattle.rdf_terms.specs.declared.term.Prefix.TheVariants.{Canonical}
 use Rattle.rdf_terms.proofs.Common.{In, Dataset, IsValid, IsValidStatement, Permutes-map, Permutes-sym, Permutes-from_equal, permutes_trans, canonical_line, issued_names, joined_sorted-Permutes, numbers_below, relabel_statement, each-from_All, from_In-map, In-numbers_below, map-agree}
 use Rattle.rdf_terms.proofs.Finishing.{mentioned_low}
 use Rattle.canonical_writer.specs.Determined.{CarriesLists}
 use Rattle.canon_model.specs.Hashing.{Hashing}
 use Rattle.canon_model.specs.Allowed.{canonical_form}
-use Rattle.canon_model.specs.CountedRun.{counted_run}
-use Rattle.canon_model.specs.Output.{chosen_form}
+use Rattle.canon_model.specs.CountedRun.{Counted, counted_run}
+use Rattle.canon_model.specs.Output.{chosen_form, units_of}
 use Rattle.canon_model.specs.QuadOrder.{HaveSameQuads}
 use Rattle.canon_model.proofs.ExchangeSymmetry.{map_same_in}
 use Rattle.canon_model.proofs.Issuers.{is_issued-from_In}
 use Rattle.canon_model.proofs.LocalSymmetry.{quad_agree}
 use Rattle.canon_model.proofs.QuadOrder.{counted_run_of_quads}
-use Rattle.other_output.specs.OneForm.{OneFormAlong}
+use Rattle.other_output.specs.OneForm.{OneFormAlong, OneLimitAlong}
 
 module _ (D E F : Dataset) (valid : IsValid D) (order : List ℕ) (a : CarriesLists D E order (numbers_below D.nodes)) (b : CarriesLists D F order (numbers_below D.nodes)) where
   in_order : (n : ℕ) → n < D.nodes → In n order
@@ -44,5 +44,15 @@ module _ (D E F : Dataset) (valid : IsValid D) (order : List ℕ) (a : CarriesLi
   pub chosen_form-numbered : (ρ : Hashing) → chosen_form ρ E ≡ chosen_form ρ F
   chosen_form-numbered ρ = form_same (counted_run ρ E).value ∙ ap (λ r. canonical_form F r.value) (sym (counted_run_of_quads ρ E F same_quads))
 
+  pub units-numbered : (ρ : Hashing) → units_of ρ E ≡ units_of ρ F
+  units-numbered ρ = sym (ap (λ (r : Counted (List ℕ)). r.trace.units) (counted_run_of_quads ρ E F same_quads))
+
 pub one_form_along : OneFormAlong
 one_form_along ρ D t valid a b f g = f.chosen ∙ chosen_form-numbered D f.numbered g.numbered valid _ f.along g.along ρ ∙ sym g.chosen
+
+pub one_limit_along : OneLimitAlong
+one_limit_along ρ D t valid limit p w =
+    let passes : limit < units_of ρ p.numbered = p.passes in
+    let within : units_of ρ w.numbered ≤ limit = w.within in
+    let same : units_of ρ p.numbered ≡ units_of ρ w.numbered = units-numbered D p.numbered w.numbered valid _ p.along w.along ρ in
+    omega (arith, passes, within, same)

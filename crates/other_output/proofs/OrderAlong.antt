@@ -19,7 +19,8 @@ issue_each-append c (x ∷ xs) ys = issue_each-append (issue c x) xs ys
 issued_one_more : (c xs list new : List ℕ) (n : ℕ) → list ≡ issue_each c xs → new ≡ list_with list n → new ≡ issue_each c (xs ++ n ∷ [])
 issued_one_more c xs list new n h e = e ∙ list_with-issue list n ∙ ap (λ w. issue w n) h ∙ sym (issue_each-append c xs (n ∷ []))
 
-pub issued_more : (c nodes list new : List ℕ) (i d : ℕ) → i < length nodes → list ≡ issue_each c (take i nodes) → new ≡ list_with list (get_or nodes i d) → new ≡ issue_each c (take (i + 1) nodes)
+pub issued_more : (c nodes list new : List ℕ) (i d : ℕ) → i < length nodes → list ≡ issue_each c (take i nodes) → new ≡ list_with list (get_or nodes i d)
+    → new ≡ issue_each c (take (i + 1) nodes)
 issued_more c nodes list new i d l h e = issued_one_more c (take i nodes) list new (get_or nodes i d) h e ∙ ap (issue_each c) (sym (take_more nodes i d l))
 
 pub issued_below_more : (c list new : List ℕ) (n : ℕ) → list ≡ issue_each c (numbers_below n) → new ≡ list_with list n → new ≡ issue_each c (numbers_below (n + 1))

@@ -8,7 +8,7 @@ use Rattle.ndegree_hash.specs.declared.tie.Tie.{Tie}
 use Rattle.canon_core.specs.declared.canon.Canon.{Canon}
 use Rattle.canon_core.specs.Canonical.{IsCanon, IsFirstUnsettled, IsUnsettledBy}
 use Rattle.other_output.specs.Along.{IsFormAlong}
-use Rattle.other_output.specs.Answers.{SettledWithoutUnsettled, ToldByForms, OneOpenness}
+use Rattle.other_output.specs.Answers.{SettledWhereNone, ToldByForms, OneOpenness}
 use Rattle.other_output.specs.Openness.{IsOpenness, IsOtherRun}
 use Rattle.other_output.specs.declared.other.Openness.{Openness}
 use Rattle.other_output.specs.declared.other.Openness.TheVariants.{Settled, Another, NotKnown}
@@ -59,8 +59,8 @@ module _ (ρ : Hashing) (D : Dataset) (canon : Canon) (it : IsCanon ρ D canon) 
   one (Another text) b o p = sym ((told o.run.tie o.run.is text o.run.form b p).0.1 o.differs)
   one NotKnown b o p = sym ((told o.tie o.is canon.bytes o.form b p).1.1 refl)
 
-pub settled_without_unsettled : SettledWithoutUnsettled
-settled_without_unsettled ρ D canon it openness o = settled ρ D canon it openness o
+pub settled_where_none : SettledWhereNone
+settled_where_none ρ D canon it openness o = settled ρ D canon it openness o
 
 pub told_by_forms : ToldByForms
 told_by_forms ρ D canon it t is text form openness o = told ρ D canon it t is text form openness o

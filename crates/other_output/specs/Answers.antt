@@ -11,13 +11,14 @@ use Rattle.other_output.specs.Openness.{IsOpenness}
 use Rattle.other_output.specs.declared.other.Openness.{Openness}
 use Rattle.other_output.specs.declared.other.Openness.TheVariants.{Settled, Another, NotKnown}
 
--- the first: exactly where the run met no tie that is not joined
-abbrev pub SettledWithoutUnsettled : Type 0
-SettledWithoutUnsettled =
+-- every tie is joined: exactly where the run has kept none that is not
+abbrev pub SettledWhereNone : Type 0
+SettledWhereNone =
     (ρ : Hashing) (D : Dataset) (canon : Canon) → IsCanon ρ D canon
-    → (openness : Openness) → IsOpenness ρ D canon openness → (openness ≡ Settled) ↔ (canon.unsettled ≡ None)
+    → (openness : Openness) → IsOpenness ρ D canon openness → ((openness ≡ Settled) ↔ (canon.unsettled ≡ None))
 
--- the others, where it met one: whether the form along the tie is that of the run
+-- where it has kept one, the form along it decides: another output exactly where it differs from that of the run, and
+-- not known exactly where the two are equal
 abbrev pub ToldByForms : Type 0
 ToldByForms =
     (ρ : Hashing) (D : Dataset) (canon : Canon) → IsCanon ρ D canon
@@ -25,7 +26,7 @@ ToldByForms =
     → (openness : Openness) → IsOpenness ρ D canon openness
     → ((openness ≡ Another text) ↔ (¬ (canon.bytes ≡ text))) × ((openness ≡ NotKnown) ↔ (canon.bytes ≡ text))
 
--- and no two of them at once
+-- two answers are equal
 abbrev pub OneOpenness : Type 0
 OneOpenness =
     (ρ : Hashing) (D : Dataset) (canon : Canon) → IsCanon ρ D canon

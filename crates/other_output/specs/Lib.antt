@@ -4,3 +4,4 @@ pub mod SharedOutputs
 pub mod OneForm
 pub mod Openness
 pub mod Answers
+pub mod NewResults

@@ -9,7 +9,7 @@ use Rattle.ndegree_hash.specs.declared.tie.Tie.{Tie}
 use Rattle.canon_core.specs.declared.canon.Canon.{Canon}
 use Rattle.canon_core.specs.Canonical.{IsUnsettledBy}
 use Rattle.canon_core.specs.Outputs.{HasTwoOutputs}
-use Rattle.other_output.specs.Along.{IsFormAlong, PassesLimitAlong}
+use Rattle.other_output.specs.Along.{IsFormAlong, IsWithinLimitAlong, PassesLimitAlong}
 use Rattle.other_output.specs.declared.other.Openness.{Openness}
 use Rattle.other_output.specs.declared.other.Openness.TheVariants.{Settled, Another, NotKnown}
 
@@ -41,6 +41,10 @@ pub record OtherRunPasses (ρ : Hashing) (D : Dataset) (canon : Canon) (limit : 
   pub tie : Tie
   pub is : canon.unsettled ≡ Some tie
   pub passes : PassesLimitAlong ρ D (tie_of tie) limit
+
+-- where there is a tie that is not joined, the run along it does not pass the limit
+abbrev pub OtherRunIsWithin : Hashing → Dataset → Canon → ℕ → Type 0
+OtherRunIsWithin ρ D canon limit = (t : Tie) → canon.unsettled ≡ Some t → IsWithinLimitAlong ρ D (tie_of t) limit
 
 -- the two texts are the same, or the other one is answered
 abbrev pub IsCompared : Text → Text → Openness → Type 0

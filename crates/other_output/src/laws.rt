@@ -1,7 +1,8 @@
-//! What holds of the outputs of a dataset that is numbered anew, whatever computes them. Each law is a contract, and
-//! the functions do nothing.
-ghost use Rattle.other_output.specs.Answers.{OneOpenness, SettledWithoutUnsettled, ToldByForms};
-ghost use Rattle.other_output.specs.OneForm.{OneFormAlong};
+//! What holds of the outputs of a dataset and of its forms along a tie, whatever computes them. Each law is a contract,
+//! and the functions do nothing.
+ghost use Rattle.other_output.specs.Answers.{OneOpenness, SettledWhereNone, ToldByForms};
+ghost use Rattle.other_output.specs.NewResults.{OtherFormAlongNewResults};
+ghost use Rattle.other_output.specs.OneForm.{OneFormAlong, OneLimitAlong};
 ghost use Rattle.other_output.specs.SharedOutputs.{OutputsOfIsomorphic};
 
 /// An output that is allowed for a dataset is allowed for every isomorphic one.
@@ -9,24 +10,34 @@ pub fn outputs_of_isomorphic()
     ensures { OutputsOfIsomorphic }
 {}
 
-/// Which numbering along a tie is taken does not matter to the form.
+/// There is one form along a tie, whichever of the datasets that are numbered along it is taken.
 pub fn one_form_along()
     ensures { OneFormAlong }
 {}
 
-/// Where it is known what the answer is, it is that there is one output exactly where the run met no tie that is not
-/// joined.
-pub fn settled_without_unsettled()
-    ensures { SettledWithoutUnsettled }
+/// And one answer to whether the run along a tie passes a limit.
+pub fn one_limit_along()
+    ensures { OneLimitAlong }
 {}
 
-/// Where the run met such a tie, the form along it decides: another output where it differs from that of the run, and
-/// not known where it is the same.
+/// It is answered that every tie is joined exactly where the run has kept none that is not.
+pub fn settled_where_none()
+    ensures { SettledWhereNone }
+{}
+
+/// Where the run has kept one, another output is answered exactly where the form along it differs from that of the
+/// run, and that none is known exactly where the two are equal.
 pub fn told_by_forms()
     ensures { ToldByForms }
 {}
 
-/// The answer is one, whatever the memory of the run.
+/// No two answers are true of one run.
 pub fn one_openness()
     ensures { OneOpenness }
+{}
+
+/// Where the first tie that is not joined is of two results that are new when the run comes to them, the form along it
+/// is not that of the run.
+pub fn other_form_along_new_results()
+    ensures { OtherFormAlongNewResults }
 {}

@@ -1,12 +1,12 @@
 //! Whether another output than that of a run is known.
-ghost use Rattle.std.specs.Prelude.{◌≡◌, IfOk, Err};
+ghost use Rattle.std.specs.Prelude.{◌≡◌, IfOk, OnOk, Err};
 ghost use Rattle.rdf_terms.specs.Document.{dataset as dataset_of};
 ghost use Rattle.canon_model.specs.Meaning.{meaning};
 ghost use Rattle.canon_model.specs.Ties.{IsTie};
 ghost use Rattle.ndegree_hash.specs.Log.{tie_of};
 ghost use Rattle.canon_core.specs.Canonical.{IsCanon};
-ghost use Rattle.other_output.specs.Along.{IsFormAlong, PassesLimitAlong};
-ghost use Rattle.other_output.specs.Openness.{IsCompared, IsOpenness, OtherRunPasses};
+ghost use Rattle.other_output.specs.Along.{IsFormAlong, IsWithinLimitAlong, PassesLimitAlong};
+ghost use Rattle.other_output.specs.Openness.{IsCompared, IsOpenness, OtherRunIsWithin, OtherRunPasses};
 
 use crate::order::order_along;
 use crate::renumbering::renumbered;
@@ -40,6 +40,7 @@ fn form_along(
 ) -> Result<Bytes, Stop>
     requires { IsTie (meaning profile) (dataset_of dataset.now) (tie_of tie.now) }
     ensures form { IfOk result (IsFormAlong (meaning profile) (dataset_of dataset.now) (tie_of tie.now)) }
+    ensures within { OnOk result (IsWithinLimitAlong (meaning profile) (dataset_of dataset.now) (tie_of tie.now) limit) }
     ensures over { result ≡ Err Stop.WorkLimit → PassesLimitAlong (meaning profile) (dataset_of dataset.now) (tie_of tie.now) limit }
 {
     let order = order_along(alloc, tie, dataset.node_count())?;
@@ -70,6 +71,7 @@ pub fn other_form(
 ) -> Result<Openness, Stop>
     requires { IsCanon (meaning canon.now.profile) (dataset_of dataset.now) canon.now }
     ensures openness { IfOk result (IsOpenness (meaning canon.now.profile) (dataset_of dataset.now) canon.now) }
+    ensures within { OnOk result (OtherRunIsWithin (meaning canon.now.profile) (dataset_of dataset.now) canon.now limit) }
     ensures over { result ≡ Err Stop.WorkLimit → OtherRunPasses (meaning canon.now.profile) (dataset_of dataset.now) canon.now limit }
 {
     match &canon.unsettled {
