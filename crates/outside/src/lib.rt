@@ -7,6 +7,7 @@ pub use real::{FileShelf, StdSink};
 pub use shelf::{Failed, Shelf};
 pub use sink::Sink;
 
+mod again;
 mod calls;
 mod memory_shelf;
 mod memory_sink;

@@ -2,13 +2,14 @@
 
 ghost use Rattle.std.specs.Prelude.{◌≡◌, ℕ, List, None, IsSome};
 
+use crate::again::{flush, read, write};
 use crate::{Failed, Shelf, Sink};
 use std::fs::File;
 use std::io::{Read, Write};
 use std::rt::Files;
 
 /// Real files, opened with a runtime. Nothing is told of their bytes. One count of faults serves every name, and
-/// while a file is started every name counts as ready.
+/// while a file is started every name counts as ready. A read that a signal interrupted is made again.
 #[derive(Drop)]
 pub struct FileShelf<'r, R: Files> {
     rt: &'r R,
@@ -55,7 +56,7 @@ impl<'r, R: Files> Shelf for FileShelf<'r, R> {
 
     fn next(&mut self, _name: &str, buf: &mut [u8]) -> Result<usize, Failed> {
         if let Some(file) = &mut self.file {
-            if let Ok(count) = file.read(buf) {
+            if let Ok(count) = read(file, buf) {
                 return Ok(count);
             }
         }
@@ -66,7 +67,8 @@ impl<'r, R: Files> Shelf for FileShelf<'r, R> {
 }
 
 /// A writer of std, to which each `put` writes once and which it then flushes. Nothing is told of the bytes.
-/// An error of the writer is a fault, and so is a write that takes none of some bytes.
+/// A call that a signal interrupted is made again. Any other error of the writer is a fault, and so is a write that takes
+/// none of some bytes.
 #[derive(Drop)]
 pub struct StdSink<W: Write + Drop> {
     writer: W,
@@ -88,8 +90,8 @@ impl<W: Write + Drop> Sink for StdSink<W> {
     ghost faults = { λ s. s.faults };
 
     fn put(&mut self, bytes: &[u8]) -> Result<usize, Failed> {
-        if let Ok(count) = self.writer.write(bytes) {
-            if (count > 0 || bytes.is_empty()) && self.writer.flush().is_ok() {
+        if let Ok(count) = write(&mut self.writer, bytes) {
+            if (count > 0 || bytes.is_empty()) && flush(&mut self.writer).is_ok() {
                 return Ok(count);
             }
         }
