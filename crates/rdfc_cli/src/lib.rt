@@ -17,6 +17,7 @@ mod files;
 mod form;
 pub mod laws;
 mod lean_text;
+mod line;
 mod made;
 mod notes;
 mod options;

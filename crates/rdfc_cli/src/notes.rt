@@ -10,6 +10,7 @@ ghost use Rattle.rdfc_cli.specs.Requests.{command_of};
 
 use crate::decimal::Decimal;
 use crate::files::FILE_LIMIT;
+use crate::line::Line;
 use crate::status::{Cause, Status};
 use crate::words::Command;
 use crate::write::put_all;
@@ -149,15 +150,32 @@ fn put_line<N: Sink>(notes: &mut N, status: &Status, command: &Command<'_>) -> R
     put_all(notes, b"\n")
 }
 
-/// Puts the line that tells of a status of this command, in parts, and none for `Done`. The first call that fails ends
-/// the note. Takes no memory.
+// Puts the line, gathered first, so that it goes out in one call where the sink takes it whole. A line that is too long
+// to be gathered goes out in parts.
+fn put_gathered<N: Sink>(
+    notes: &mut N,
+    status: &Status,
+    command: &Command<'_>,
+) -> Result<(), Failed>
+    ensures bytes { Puts (N.taken notes.old) (N.taken notes.new) result (note_line (file_word (command_of command.now)) status.now) }
+    ensures cause { HasCause (N.faults notes.old) (N.faults notes.new) result }
+{
+    let mut line = Line::new();
+    match put_line(&mut line, status, command) {
+        Ok(()) => put_all(notes, line.as_bytes()),
+        Err(Failed) => put_line(notes, status, command),
+    }
+}
+
+/// Puts the line that tells of a status of this command, and none for `Done`. A line of up to 4,096 bytes is put by one
+/// call, if the sink takes it whole. The first call that fails ends the note. Takes no memory.
 pub fn put_note<N: Sink>(notes: &mut N, status: &Status, command: &Command<'_>)
     ensures { IsNoted N.taken N.faults notes.old notes.new (file_word (command_of command.now)) status.now }
 {
     match status {
         Status::Done => {}
         _ => {
-            let _ = put_line(notes, status, command);
+            let _ = put_gathered(notes, status, command);
         }
     }
 }
