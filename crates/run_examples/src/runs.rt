@@ -1,10 +1,9 @@
 //! What a run answers, writes and notes, over a shelf and sinks in memory.
+use crate::trials::{assert_ended, canon, expect};
 use rdfc_cli::Status;
 use run_trials::documents::{FIVE, PAIR, RING, TURNED, TWO_RINGS};
-use run_trials::{Ended, Ending, Trial, done, nothing_written, outcome_of, plain};
-use std::alloc::Global;
+use run_trials::{Ending, Trial, done, nothing_written, outcome_of, plain};
 use std::hash::RandomState;
-use std::process::Abort;
 use std::test::Fail;
 
 // Two nodes with different first-degree hashes, and the canonical form: the example of unique
@@ -66,26 +65,6 @@ _:s0 <e:p> _:o1 _:g1 .
 _:s1 <e:p> _:o0 _:g1 .
 _:s1 <e:p> _:o1 _:g0 .
 ";
-
-fn assert_ended(rt: &impl Abort, ended: &Ended, want: Ending<'_>, trial: &Trial<'_>) {
-    assert_eq!(rt; ended.ending(), want, "{:?} {}", trial.words, trial.text);
-}
-
-fn expect(
-    rt: &impl Abort,
-    alloc: Global,
-    keys: RandomState,
-    trial: &Trial<'_>,
-    want: Ending<'_>,
-) -> Result<(), Fail> {
-    let ended = outcome_of(alloc, keys, trial)?;
-    assert_ended(rt, &ended, want, trial);
-    Ok(())
-}
-
-fn canon(text: &str) -> Trial<'_> {
-    plain(&["canon", "f"], text)
-}
 
 #[test]
 fn canon_writes_each_line_once_and_in_order(rt: HostRuntime) -> Result<(), Fail> {
@@ -274,47 +253,6 @@ fn what_is_not_done_is_noted_and_nothing_is_written(rt: HostRuntime) -> Result<(
         expect(&rt, rt.alloc(), keys, &trial, nothing_written(code, note))?;
     }
     Ok(())
-}
-
-#[test]
-fn a_read_that_fails_is_never_the_end_of_the_file(rt: HostRuntime) -> Result<(), Fail> {
-    let keys = RandomState::new(&rt)?;
-    // Twelve bytes in pieces of seven: the start, two pieces, and the call that finds the end.
-    let want = nothing_written(5, "rdfc: f: read failed\n");
-    for call in 0..4 {
-        let trial = Trial {
-            shelf: &[call],
-            ..canon("# no quad\n\n\n")
-        };
-        expect(&rt, rt.alloc(), keys, &trial, want)?;
-    }
-    Ok(())
-}
-
-#[test]
-fn a_write_that_fails_leaves_a_front_of_the_text(rt: HostRuntime) -> Result<(), Fail> {
-    let keys = RandomState::new(&rt)?;
-    let trial = Trial {
-        out: &[1],
-        ..canon("<http://e/a> <http://e/p> <http://e/o> .\n")
-    };
-    let want = Ending {
-        code: 6,
-        out: b"<http://e/",
-        notes: b"rdfc: write failed\n",
-    };
-    expect(&rt, rt.alloc(), keys, &trial, want)
-}
-
-#[test]
-fn a_note_that_fails_changes_no_status(rt: HostRuntime) -> Result<(), Fail> {
-    let keys = RandomState::new(&rt)?;
-    let trial = Trial {
-        notes: &[1],
-        ..canon("no line")
-    };
-    let want = nothing_written(4, "rdfc: ");
-    expect(&rt, rt.alloc(), keys, &trial, want)
 }
 
 // Where an allocation of the run is refused, it ends with `NoMemory` and an untouched output.
