@@ -9,9 +9,11 @@ use Rattle.canon_core.specs.declared.canon.Canon.{Canon}
 use Rattle.canon_core.specs.Canonical.{IsCanon, IsFirstUnsettled, IsUnsettledBy}
 use Rattle.other_output.specs.Along.{IsFormAlong}
 use Rattle.other_output.specs.Answers.{SettledWhereNone, ToldByForms, OneOpenness}
+use Rattle.other_output.specs.NewResults.{KnownAlongNewResults}
 use Rattle.other_output.specs.Openness.{IsOpenness, IsOtherRun}
 use Rattle.other_output.specs.declared.other.Openness.{Openness}
 use Rattle.other_output.specs.declared.other.Openness.TheVariants.{Settled, Another, NotKnown}
+use Rattle.other_output.proofs.AlongNewResults.{other_form_along_new_results}
 use Rattle.other_output.proofs.OneForm.{one_form_along}
 
 -- a tie that is not joined is one of the run
@@ -67,3 +69,10 @@ told_by_forms ρ D canon it t is text form openness o = told ρ D canon it t is 
 
 pub one_openness : OneOpenness
 one_openness ρ D canon it a b o p = one ρ D canon it a b o p
+
+pub known_along_new_results : KnownAlongNewResults
+known_along_new_results ρ D canon it t is new openness o e =
+    let run : IsOtherRun ρ D canon canon.bytes = subst (IsOpenness ρ D canon) e o in
+    let some : Some run.tie ≡ Some t = sym run.is ∙ is in
+    let same : run.tie ≡ t = cc in
+    other_form_along_new_results ρ D it.bytes.valid (tie_of t) new canon.bytes (subst (λ u. IsFormAlong ρ D (tie_of u) canon.bytes) same run.form) (sym it.bytes.chosen)

@@ -1,5 +1,5 @@
 -- A first tie that is not joined, of two results of start nodes for which no identifier was issued yet.
-use Rattle.std.specs.Prelude.{◌≡◌, ◌++◌, List, true}
+use Rattle.std.specs.Prelude.{◌≡◌, ◌++◌, List, Some, true}
 use Rattle.rdf_terms.specs.Vocabulary.{Text, In, is_before, Dataset, IsValid}
 use Rattle.canon_model.specs.Hashing.{Hashing}
 use Rattle.canon_model.specs.Allowed.{HashPathResult, issued_for_unique_hashes, unissued_nodes}
@@ -7,7 +7,14 @@ use Rattle.canon_model.specs.CountedRun.{Tie, counted_hashes, trace_of_starts}
 use Rattle.canon_model.specs.JoinedTies.{IsFirstUnjoined, ties_of_run}
 use Rattle.canon_model.specs.Output.{chosen_form}
 use Rattle.canon_model.specs.TwoLists.{AreNewResults}
+use Rattle.ndegree_hash.specs.Log.{tie_of}
+use Rattle.ndegree_hash.specs.declared.tie.Tie.{Tie as CarriedTie}
+use Rattle.canon_core.specs.declared.canon.Canon.{Canon}
+use Rattle.canon_core.specs.Canonical.{IsCanon}
 use Rattle.other_output.specs.Along.{IsFormAlong}
+use Rattle.other_output.specs.Openness.{IsOpenness}
+use Rattle.other_output.specs.declared.other.Openness.{Openness}
+use Rattle.other_output.specs.declared.other.Openness.TheVariants.{NotKnown}
 
 -- The first tie of the counted run that is not joined is one of two new results, the left one the first of its hash. It
 -- is logged behind the ties of the classes before, and behind those of the calls of its class.
@@ -28,3 +35,10 @@ abbrev pub OtherFormAlongNewResults : Type 0
 OtherFormAlongNewResults =
     (ρ : Hashing) (D : Dataset) → IsValid D → (t : Tie) → IsFirstOfNewResults ρ D t
     → (text : Text) → IsFormAlong ρ D t text → ¬ (chosen_form ρ D ≡ text)
+
+-- so it is not answered that no other output is known
+abbrev pub KnownAlongNewResults : Type 0
+KnownAlongNewResults =
+    (ρ : Hashing) (D : Dataset) (canon : Canon) → IsCanon ρ D canon
+    → (t : CarriedTie) → canon.unsettled ≡ Some t → IsFirstOfNewResults ρ D (tie_of t)
+    → (openness : Openness) → IsOpenness ρ D canon openness → ¬ (openness ≡ NotKnown)

@@ -1,7 +1,7 @@
 //! What holds of the outputs of a dataset and of its forms along a tie, whatever computes them. Each law is a contract,
 //! and the functions do nothing.
 ghost use Rattle.other_output.specs.Answers.{OneOpenness, SettledWhereNone, ToldByForms};
-ghost use Rattle.other_output.specs.NewResults.{OtherFormAlongNewResults};
+ghost use Rattle.other_output.specs.NewResults.{KnownAlongNewResults, OtherFormAlongNewResults};
 ghost use Rattle.other_output.specs.OneForm.{OneFormAlong, OneLimitAlong};
 ghost use Rattle.other_output.specs.SharedOutputs.{OutputsOfIsomorphic};
 
@@ -40,4 +40,9 @@ pub fn one_openness()
 /// is not that of the run.
 pub fn other_form_along_new_results()
     ensures { OtherFormAlongNewResults }
+{}
+
+/// So it is not answered then that no other output is known.
+pub fn known_along_new_results()
+    ensures { KnownAlongNewResults }
 {}

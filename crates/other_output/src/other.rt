@@ -25,7 +25,8 @@ pub enum Openness {
     Settled,
     /// Another output.
     Another(Bytes),
-    /// The run along the first tie that is not joined ends with the same output.
+    /// The run along the first tie that is not joined ends with the same output. Another one may be allowed all the
+    /// same.
     NotKnown,
 }
 
@@ -60,8 +61,10 @@ fn compared(first: &Bytes, other: Bytes) -> Openness
     }
 }
 
-/// Looks for another output, by a run in which the nodes are numbered along the first tie that is
-/// not joined. What it answers does not depend on the keys.
+/// Looks for another output than that of a run, by one more run: of the dataset with its nodes numbered along the
+/// first tie that is not joined, under the same profile. The limit is that of this run alone, in the units of
+/// `canonicalise`. What is answered does not depend on the keys. Meanwhile both datasets are in memory; after a stop
+/// nothing has changed.
 pub fn other_form(
     alloc: Global,
     dataset: &Dataset,
