@@ -84,6 +84,12 @@ module _ (ρ : Hashing) (D : Dataset) (valid : IsValid D) (c : List ℕ) (left r
       let e : left.start ≡ f.0 = λ i. (f.2 i).start in
       (subst (λ x. In x starts) (sym e) f.1, f.2 ∙ ap (result_of ρ D c) (sym e))
 
+  left_outcome : HashNDegreeQuads ρ D c left.start (left.start ∷ []) left.hash left.issuer
+  left_outcome = subst (λ (v : HashPathResult). HashNDegreeQuads ρ D c v.start (v.start ∷ []) v.hash v.issuer) (sym left_start.1) (outcome_at left.start left_start.0)
+
+  left_component : IsComponent D quads c left.start left.issuer
+  left_component = component left.start left.hash left.issuer left_outcome
+
   right_outcome : HashNDegreeQuads ρ D c right.start (right.start ∷ []) right.hash right.issuer
   right_outcome = subst (λ (v : HashPathResult). HashNDegreeQuads ρ D c v.start (v.start ∷ []) v.hash v.issuer) (sym right_start.1) (outcome_at right.start right_start.0)
 
@@ -194,12 +200,6 @@ module _ (ρ : Hashing) (D : Dataset) (valid : IsValid D) (c : List ℕ) (left r
         (are_distinct_from_once _ (issue_results-once c first canonical.once)) in_order in_order_back
 
     -- ---- the one result and the other are new there
-
-    left_outcome : HashNDegreeQuads ρ D c left.start (left.start ∷ []) left.hash left.issuer
-    left_outcome = subst (λ (v : HashPathResult). HashNDegreeQuads ρ D c v.start (v.start ∷ []) v.hash v.issuer) (sym left_start.1) (outcome_at left.start left_start.0)
-
-    left_component : IsComponent D quads c left.start left.issuer
-    left_component = component left.start left.hash left.issuer left_outcome
 
     left_fresh : (y : ℕ) → is_issued y left.issuer ≡ true → is_issued y (issue_results c new.issued) ≡ false
     left_fresh y h = false_from_ne_true (is_issued y (issue_results c new.issued)) (λ e. by (issued_issue_results_from c new.issued y e))

@@ -15,6 +15,7 @@ use Rattle.other_output.specs.declared.other.Openness.{Openness}
 use Rattle.other_output.specs.declared.other.Openness.TheVariants.{Settled, Another, NotKnown}
 use Rattle.other_output.proofs.AlongNewResults.{other_form_along_new_results}
 use Rattle.other_output.proofs.OneForm.{one_form_along}
+use Rattle.other_output.proofs.Verdicts.{run_of}
 
 -- a tie that is not joined is one of the run
 not_settled : (ρ : Hashing) (D : Dataset) (t : Tie) → IsUnsettledBy ρ D t → ¬ (IsSettled ρ D)
@@ -46,7 +47,7 @@ module _ (ρ : Hashing) (D : Dataset) (canon : Canon) (it : IsCanon ρ D canon) 
 
   module _ (t : Tie) (is : canon.unsettled ≡ Some t) (text : Text) (form : IsFormAlong ρ D (tie_of t) text) where
     run : IsOtherRun ρ D canon text
-    run = record { tie = t; is = is; unsettled = subst (IsFirstUnsettled ρ D) is it.unsettled; form = form }
+    run = run_of ρ D canon it t is text form text refl
 
     pub told : (openness : Openness) → IsOpenness ρ D canon openness
         → ((openness ≡ Another text) ↔ (¬ (canon.bytes ≡ text))) × ((openness ≡ NotKnown) ↔ (canon.bytes ≡ text))

@@ -53,7 +53,7 @@ module _ (ρ : Hashing) (D : Dataset) (canon : Canon) (it : IsCanon ρ D canon) 
   only_output none = let settled : IsSettled ρ D = subst (IsFirstUnsettled ρ D) none it.unsettled in record { settled = settled; only = it.only settled }
 
   module _ (t : CarriedTie) (is : canon.unsettled ≡ Some t) (other : Text) (form : IsFormAlong ρ D (tie_of t) other) where
-    run_of : (text : Text) → text ≡ other → IsOtherRun ρ D canon text
+    pub run_of : (text : Text) → text ≡ other → IsOtherRun ρ D canon text
     run_of text e = record { tie = t; is = is; unsettled = subst (IsFirstUnsettled ρ D) is it.unsettled; form = subst (IsFormAlong ρ D (tie_of t)) (sym e) form }
 
     pub openness_of : (result : Openness) → IsCompared canon.bytes other result → IsOpenness ρ D canon result
