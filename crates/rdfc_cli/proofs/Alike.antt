@@ -12,7 +12,7 @@ use Rattle.ndegree_hash.specs.declared.tie.Tie.{Tie}
 use Rattle.rdfc_cli.specs.Answers.{Content, Accepts, FileSeen, IsCause, IsPast, hashing_of}
 use Rattle.rdfc_cli.specs.Completeness.{IsFine, FindsBijections}
 use Rattle.rdfc_cli.specs.declared.options.Settings.{Settings}
-use Rattle.rdfc_cli.specs.declared.status.Status.TheVariants.{Done, Different, Usage, Unsettled, Refused, ReadFault, WriteFault, WorkLimit, NoMemory, Undecided, SearchLimit}
+use Rattle.rdfc_cli.specs.declared.status.Status.TheVariants.{Done, Different, NoOther, Usage, Unsettled, NotFound, Refused, ReadFault, WriteFault, WorkLimit, NoMemory, Undecided, SearchLimit}
 use Rattle.rdfc_cli.specs.declared.status.Cause.{Cause}
 use Rattle.rdfc_cli.proofs.Headlines.{same_quads, same_units, of_told, not_both, no_cause_if_accepted}
 
@@ -73,11 +73,11 @@ module _ (settings : Settings) (file : FileSeen) (content read : Content) (fine 
   read_quads : HaveSameQuads content.dataset read.dataset
   read_quads = same_quads file.syntax fine.bytes content read fine.accepts accepted
 
-  not_past : ¬ (IsPast settings read.dataset)
+  pub not_past : ¬ (IsPast settings read.dataset)
   not_past past =
       not_both _ settings.limit (subst (λ n. settings.limit < n) (same_units (hashing_of settings) file.syntax fine.bytes content read fine.accepts accepted) past) fine.within
 
-not_refused : (settings : Settings) (file : FileSeen) (content : Content) (cause : Cause) → IsFine file settings content → IfSome file.told (λ bytes. IsCause file.syntax bytes cause) → ⊥
+pub not_refused : (settings : Settings) (file : FileSeen) (content : Content) (cause : Cause) → IsFine file settings content → IfSome file.told (λ bytes. IsCause file.syntax bytes cause) → ⊥
 not_refused settings file content cause fine c =
     no_cause_if_accepted file.syntax fine.bytes content cause fine.accepts (of_told file.told fine.bytes (λ bytes. IsCause file.syntax bytes cause) fine.told c)
 
@@ -89,6 +89,8 @@ module _ {K : Type 0} (taken : K → Option Text) (faults : K → ℕ) where
   finds_bijections file first second settings old new Different p none a =
       a.1.fact.2.not_isomorphic (same_isomorphic p.content.dataset p.other.dataset a.1.content.dataset a.1.other.dataset (read_quads settings (file first) p.content a.1.content p.fine a.1.accepts)
       (read_quads settings (file second) p.other a.1.other p.other_fine a.1.accepts_other) p.isomorphic)
+  finds_bijections file first second settings old new NoOther p none a = absurd a.1
+  finds_bijections file first second settings old new (NotFound tie) p none a = absurd a.1
   finds_bijections file first second settings old new Usage p none a = absurd a.1
   finds_bijections file first second settings old new (Unsettled tie) p none a = absurd (let e = a.2.0 in cc)
   finds_bijections file first second settings old new (Refused refusal) p none a =

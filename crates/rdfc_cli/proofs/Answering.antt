@@ -3,23 +3,23 @@ use Rattle.std.proofs.Common.{◌≡◌, ℕ, ◌≤◌, Option, Some, None, IfS
 use Rattle.rdf_terms.proofs.Common.{Text, Document}
 use Rattle.outside.specs.Faults.{Rose}
 use Rattle.load_document.specs.LoadDocument.{load_document}
-use Rattle.rdfc_cli.specs.Answers.{Content, Accepts, FileSeen, IsCause, IfAccepted, AreBothAccepted, IsPast, IsRunText, IsWritten, Stops, Answers}
-use Rattle.rdfc_cli.specs.Reports.{IsTextOf}
+use Rattle.rdfc_cli.specs.Answers.{Content, Accepts, FileSeen, IsCause, IfAccepted, AreBothAccepted, IsWritten, Stops, Answers}
 use Rattle.rdfc_cli.specs.FileFaults.{content_of, IsFileFault, IsFaultStatus}
 use Rattle.rdfc_cli.specs.Forms.{IsPairOutput, IsPairStop}
-use Rattle.rdfc_cli.specs.Outputs.{IsTaskOutput, IsSummaryOutput, IsRunStop, IsLeanOutput, IsLeanEnd, Delivers}
-use Rattle.rdfc_cli.specs.Leaning.{IsLeaning, HasGraphName, IsPastMaps}
+use Rattle.rdfc_cli.specs.Outputs.{IsSummaryOutput, IsRunStop, IsWorkOutput, IsWorkEnd, Delivers}
+use Rattle.rdfc_cli.specs.Requests.{command_on}
 use Rattle.rdfc_cli.specs.Words.{Command, Syntax}
-use Rattle.rdfc_cli.specs.Words.Command.{on_file, compare, lean, load}
+use Rattle.rdfc_cli.specs.Words.Command.{on_file, compare, lean, other, load}
 use Rattle.rdfc_cli.specs.Words.Syntax.{nquads}
 use Rattle.rdfc_cli.specs.declared.files.FileFault.{FileFault}
 use Rattle.rdfc_cli.specs.declared.files.FileFault.TheVariants.{Failed, Refused as RefusedFile, NoMemory as NoMemoryForFile}
 use Rattle.rdfc_cli.specs.declared.options.Settings.{Settings}
 use Rattle.rdfc_cli.specs.declared.output.Output.{Output}
-use Rattle.rdfc_cli.specs.declared.words.Task.{Task}
+use Rattle.rdfc_cli.specs.declared.words.Work.{Work}
+use Rattle.rdfc_cli.specs.declared.words.Work.TheVariants.{Run, Lean, Other}
 use Rattle.rdfc_cli.specs.declared.status.Refusal.{Refusal}
 use Rattle.rdfc_cli.specs.declared.status.Status.{Status}
-use Rattle.rdfc_cli.specs.declared.status.Status.TheVariants.{Done, Different, Usage, Unsettled, Refused, ReadFault, WriteFault, WorkLimit, NoMemory, Undecided, SearchLimit}
+use Rattle.rdfc_cli.specs.declared.status.Status.TheVariants.{Done, Different, NoOther, Usage, Unsettled, NotFound, Refused, WriteFault, WorkLimit, NoMemory, Undecided, SearchLimit}
 
 -- ---- a file that is told is accepted
 
@@ -28,26 +28,43 @@ if_told : (syntax : Syntax) (told : Option Text) (content : Content) (Fact : Con
 if_told syntax None content Fact a f = tt
 if_told syntax (Some t) content Fact a f = (content, a, f)
 
-pub if_accepted : (file : FileSeen) (d : Document) (Fact : Content → Type 0) → IfSome file.told (λ t. Accepts file.syntax t (content_of d)) → Fact (content_of d) → IfAccepted file Fact
-if_accepted file d Fact a f = if_told file.syntax file.told (content_of d) Fact a f
-
 -- ---- why nothing is written
 
-module _ (file : Text → FileSeen) (task : Task) (word : Text) (settings : Settings) where
-  pub stops-file_fault : (fault : FileFault) (status : Status) → IsFileFault (file word) fault → IsFaultStatus fault 0 status → Stops file (on_file task word) settings status
-  stops-file_fault Failed status f e = subst (Stops file (on_file task word) settings) (sym e) (refl, f)
-  stops-file_fault (RefusedFile cause) status f e = subst (Stops file (on_file task word) settings) (sym e) (inl (refl, f))
-  stops-file_fault NoMemoryForFile status f e = subst (Stops file (on_file task word) settings) (sym e) tt
+module _ (file : Text → FileSeen) (word : Text) (settings : Settings) where
+  pub stops-file_fault : (work : Work) (fault : FileFault) (status : Status) → IsFileFault (file word) fault → IsFaultStatus fault 0 status → Stops file (command_on work word) settings status
+  stops-file_fault (Run task) Failed status f e = subst (Stops file (on_file task word) settings) (sym e) (refl, f)
+  stops-file_fault (Run task) (RefusedFile cause) status f e = subst (Stops file (on_file task word) settings) (sym e) (inl (refl, f))
+  stops-file_fault (Run task) NoMemoryForFile status f e = subst (Stops file (on_file task word) settings) (sym e) tt
+  stops-file_fault Lean Failed status f e = subst (Stops file (lean word) settings) (sym e) (refl, f)
+  stops-file_fault Lean (RefusedFile cause) status f e = subst (Stops file (lean word) settings) (sym e) (inl (refl, f))
+  stops-file_fault Lean NoMemoryForFile status f e = subst (Stops file (lean word) settings) (sym e) tt
+  stops-file_fault Other Failed status f e = subst (Stops file (other word) settings) (sym e) (refl, f)
+  stops-file_fault Other (RefusedFile cause) status f e = subst (Stops file (other word) settings) (sym e) (inl (refl, f))
+  stops-file_fault Other NoMemoryForFile status f e = subst (Stops file (other word) settings) (sym e) tt
 
-  pub stops-run : (d : Document) (status : Status) → IfSome (file word).told (λ t. Accepts (file word).syntax t (content_of d)) → IsRunStop settings d status
-      → Stops file (on_file task word) settings status
-  stops-run d (WorkLimit place limit) a s = (s.1, (s.0, if_accepted (file word) d (λ content. IsPast settings content.dataset) a s.2))
-  stops-run d NoMemory a s = tt
-  stops-run d status a s = absurd s
+  module _ (d : Document) (accepts : IfSome (file word).told (λ t. Accepts (file word).syntax t (content_of d))) where
+    -- what holds of the dataset that was read
+    read : (Fact : Content → Type 0) → Fact (content_of d) → IfAccepted (file word) Fact
+    read Fact f = if_told (file word).syntax (file word).told (content_of d) Fact accepts f
 
-  pub written : (d : Document) (output : Output) → IfSome (file word).told (λ t. Accepts (file word).syntax t (content_of d)) → IsTaskOutput task settings d output
-      → IsWritten file (on_file task word) settings output.unsettled output.text
-  written d output a o = if_accepted (file word) d (λ content. IsRunText settings output.unsettled (λ ρ. IsTextOf task ρ content.dataset content.labels) content.dataset output.text) a o
+    pub stops-work : (work : Work) (status : Status) → IsWorkEnd work settings d status → Stops file (command_on work word) settings status
+    stops-work (Run task) (WorkLimit place limit) s = (s.1, (s.0, read _ s.2))
+    stops-work (Run task) NoMemory s = tt
+    stops-work (Run task) status s = absurd s
+    stops-work Lean (Refused refusal) s = inr (ap (λ (r : Refusal). r.cause) s.0, ap (λ (r : Refusal). r.file) s.0, read _ s.1)
+    stops-work Lean NoMemory s = tt
+    stops-work Lean (SearchLimit limit image) s = (s.0, read _ s.1)
+    stops-work Lean status s = absurd s
+    stops-work Other (WorkLimit place limit) s = (s.1, (s.0, read _ s.2))
+    stops-work Other NoOther s = read _ s
+    stops-work Other (NotFound tie) s = read _ s
+    stops-work Other NoMemory s = tt
+    stops-work Other status s = absurd s
+
+    pub written-work : (work : Work) (output : Output) → IsWorkOutput work settings d output → IsWritten file (command_on work word) settings output.unsettled output.text
+    written-work (Run task) output o = read _ o
+    written-work Lean output o = (o.0, read _ o.1)
+    written-work Other output o = (o.0, read _ o.1)
 
 -- ---- two files
 
@@ -89,25 +106,6 @@ module _ (file : Text → FileSeen) (first second : Text) (settings : Settings) 
     stops-pair NoMemory s = tt
     stops-pair (Undecided t u) s = both _ s
     stops-pair status s = absurd s
-
--- ---- a graph that is leaned
-
-module _ (file : Text → FileSeen) (word : Text) (settings : Settings) where
-  pub stops-graph_fault : (fault : FileFault) (status : Status) → IsFileFault (file word) fault → IsFaultStatus fault 0 status → Stops file (lean word) settings status
-  stops-graph_fault Failed status f e = subst (Stops file (lean word) settings) (sym e) (refl, f)
-  stops-graph_fault (RefusedFile cause) status f e = subst (Stops file (lean word) settings) (sym e) (inl (refl, f))
-  stops-graph_fault NoMemoryForFile status f e = subst (Stops file (lean word) settings) (sym e) tt
-
-  pub stops-graph : (d : Document) (status : Status) → IfSome (file word).told (λ t. Accepts (file word).syntax t (content_of d)) → IsLeanEnd settings d status → Stops file (lean word) settings status
-  stops-graph d (Refused refusal) a s =
-      inr (ap (λ (r : Refusal). r.cause) s.0, ap (λ (r : Refusal). r.file) s.0, if_accepted (file word) d (λ content. HasGraphName content.dataset.statements) a s.1)
-  stops-graph d NoMemory a s = tt
-  stops-graph d (SearchLimit limit image) a s = (s.0, if_accepted (file word) d (λ content. IsPastMaps content.dataset settings.limit image) a s.1)
-  stops-graph d status a s = absurd s
-
-  pub written-graph : (d : Document) (output : Output) → IfSome (file word).told (λ t. Accepts (file word).syntax t (content_of d)) → IsLeanOutput settings d output
-      → IsWritten file (lean word) settings output.unsettled output.text
-  written-graph d output a o = (o.0, if_accepted (file word) d (λ content. IsLeaning settings.map settings.limit content.dataset output.text) a o.1)
 
 -- ---- a document that is made
 

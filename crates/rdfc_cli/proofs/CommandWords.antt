@@ -1,20 +1,22 @@
 -- Commands as words: some words spell at most one command, with one list of options.
-use Rattle.std.proofs.Common.{◌≡◌, ℕ, ◌⊎◌, Bool, None, IfSome, true≢false, arith, List, [], ◌∷◌, ◌++◌, codes, get_or, inl, inr, if◌then◌else◌, ◌==◌, refl, sym, ap, ◌∙◌, subst, true, false}
+use Rattle.std.proofs.Common.{◌≡◌, ℕ, ◌⊎◌, Bool, Option, Some, None, IfNone, IfSome, true≢false, arith, List, [], ◌∷◌, ◌++◌, codes, get_or, inl, inr, if◌then◌else◌, ◌==◌, refl, sym, ap, ◌∙◌, subst, true, false}
 use Rattle.std.specs.Prelude.{flat_map}
 use Rattle.rdf_terms.proofs.Common.{Text, In, numeral, In-map, from_In-map, IsDigit, In-numeral, numeral-injective}
 use Rattle.canon_model.specs.declared.profile.HashKind.TheVariants.{Sha256}
 use Rattle.canon_model.specs.declared.profile.Related.TheVariants.{Each}
 use Rattle.trig_builder.specs.Building.{IsWhole as IsBase}
 use Rattle.rdfc_cli.specs.Words.{Command, Given, Syntax, task_word, command_word, operands, option_name, spelled_option, name_word, HasGoodOperands, HasGoodValue, TakesOption, IsCommand, IsNoCommand}
-use Rattle.rdfc_cli.specs.Words.Command.{on_file, compare, lean, load}
+use Rattle.rdfc_cli.specs.Words.Command.{on_file, compare, lean, other, load}
 use Rattle.rdfc_cli.specs.Words.Given.{hash, related, as_map, as_trig, base}
 use Rattle.rdfc_cli.specs.Words.Syntax.{nquads, trig}
 use Rattle.rdfc_cli.specs.Options.{Chosen, chosen_by, settings_in, syntax_in, AreTaken, IsNew, HasFittingBase, BeginsNoOption, BeginsWithOptions, AreOptions, AreNoOptions}
-use Rattle.rdfc_cli.specs.Requests.{command_of, syntax_of, IsRequest, IsSpelled, HasGoodBase}
+use Rattle.rdfc_cli.specs.Requests.{command_of, command_on, work_word, syntax_of, IsRequest, IsSpelled, HasGoodBase}
 use Rattle.rdfc_cli.specs.declared.words.Request.{Request}
 use Rattle.rdfc_cli.specs.declared.options.Settings.{Settings}
 use Rattle.rdfc_cli.specs.declared.options.OptionName.{OptionName}
 use Rattle.rdfc_cli.specs.declared.options.OptionName.TheVariants.{Limit}
+use Rattle.rdfc_cli.specs.declared.words.Work.{Work}
+use Rattle.rdfc_cli.specs.declared.words.Work.TheVariants.{Run, Lean, Other}
 use Rattle.rdfc_cli.specs.declared.words.Task.{Task}
 use Rattle.rdfc_cli.specs.declared.words.Task.TheVariants.{Canon, Hash as HashTask, Map, Ties}
 use Rattle.rdfc_cli.proofs.OptionWords.{head_same, tail_same, not_empty, same_options, name_there, new_name}
@@ -43,8 +45,21 @@ no_task t word l e = true≢false (sym l ∙ (ap (λ w. get_or w 0 0 == 108) (sy
     other Map = refl
     other Ties = refl
 
+-- nor with an `o`
+other_task : (t : Task) → ¬ (task_word t ≡ codes "other")
+other_task Canon e = true≢false (ap (λ w. get_or w 0 0 == 99) e)
+other_task HashTask e = true≢false (ap (λ w. get_or w 0 0 == 104) e)
+other_task Map e = true≢false (ap (λ w. get_or w 0 0 == 109) e)
+other_task Ties e = true≢false (ap (λ w. get_or w 0 0 == 116) e)
+
 lean_no_load : ¬ (codes "lean" ≡ codes "load")
 lean_no_load e = true≢false (ap (λ w. get_or w 1 0 == 101) e)
+
+other_no_lean : ¬ (codes "other" ≡ codes "lean")
+other_no_lean e = true≢false (ap (λ w. get_or w 0 0 == 111) e)
+
+other_no_load : ¬ (codes "other" ≡ codes "load")
+other_no_load e = true≢false (ap (λ w. get_or w 0 0 == 111) e)
 
 same_command : (c d : Command) → command_word c ≡ command_word d → operands c ≡ operands d → c ≡ d
 same_command (on_file s f) (on_file t g) w o =
@@ -67,6 +82,15 @@ same_command (compare f h) (load n) w o = absurd (not_empty h [] (sym (tail_same
 same_command (load n) (compare g h) w o = absurd (not_empty h [] (tail_same (numeral n) g [] (h ∷ []) o))
 same_command (lean f) (load n) w o = absurd (lean_no_load w)
 same_command (load n) (lean f) w o = absurd (lean_no_load (sym w))
+same_command (on_file t f) (other g) w o = absurd (other_task t w)
+same_command (other f) (on_file t g) w o = absurd (other_task t (sym w))
+same_command (compare f h) (other g) w o = absurd (not_empty h [] (sym (tail_same f g (h ∷ []) [] o)))
+same_command (other f) (compare g h) w o = absurd (not_empty h [] (tail_same f g [] (h ∷ []) o))
+same_command (lean f) (other g) w o = absurd (other_no_lean (sym w))
+same_command (other f) (lean g) w o = absurd (other_no_lean w)
+same_command (other f) (load n) w o = absurd (other_no_load w)
+same_command (load n) (other f) w o = absurd (other_no_load (sym w))
+same_command (other f) (other g) w o = ap other (head_same f g [] [] o)
 same_command (load m) (load n) w o = ap load (numeral-injective m n (head_same (numeral m) (numeral n) [] [] o))
 
 dash_first : (name : OptionName) (b : ℕ) (bs : Text) → b ∷ bs ≡ name_word name → b ≡ 45
@@ -81,6 +105,8 @@ operands_no_option (compare [] second) good = absurd good.0
 operands_no_option (compare (b ∷ bs) second) good = λ name e. good.0 (dash_first name b bs e)
 operands_no_option (lean []) good = absurd good
 operands_no_option (lean (b ∷ bs)) good = λ name e. good (dash_first name b bs e)
+operands_no_option (other []) good = absurd good
+operands_no_option (other (b ∷ bs)) good = λ name e. good (dash_first name b bs e)
 operands_no_option (load n) good = λ name e. no_digit (In-numeral n 45 (subst (In 45) (sym e) (begins_with_dash name)))
   where
     begins_with_dash : (name : OptionName) → In 45 (name_word name)
@@ -103,6 +129,8 @@ takes (compare f s) chosen taken g = inl tt
 takes (lean f) chosen taken (hash k) = inr taken.0
 takes (lean f) chosen taken (related r) = inr taken.1
 takes (lean f) chosen taken g = inl tt
+takes (other f) chosen taken as_map = inr taken
+takes (other f) chosen taken g = inl tt
 takes (load n) chosen taken as_map = inr taken.1
 takes (load n) chosen taken as_trig = inr taken.0.0
 takes (load n) chosen taken (base iri) = inr taken.0.1
@@ -125,6 +153,7 @@ options_taken (compare f s) given all =
 options_taken (lean f) given all =
     let new = new_if_refused (lean f) given all in
     (new (hash Sha256) (λ t. t), new (related Each) (λ t. t))
+options_taken (other f) given all = new_if_refused (other f) given all as_map (λ t. t)
 options_taken (load n) given all =
     let new = new_if_refused (load n) given all in
     ((new as_trig (λ t. t), new (base []) (λ t. t)), new as_map (λ t. t))
@@ -156,6 +185,28 @@ options_of word more c given k = record { spelled = tail_same word (command_word
 
 first_word : (word : Text) (more : List Text) (c : Command) (given : List Given) → IsCommand (word ∷ more) c given → word ≡ command_word c
 first_word word more c given k = head_same word (command_word c) more (flat_map spelled_option given ++ operands c) k.spelled
+
+-- ---- what is done with a file
+
+word_of_work : (work : Work) (file : Text) → command_word (command_on work file) ≡ work_word work
+word_of_work (Run task) file = refl
+word_of_work Lean file = refl
+word_of_work Other file = refl
+
+pub not_spelled-work : (word : Text) (behind : List Text) → ((work : Work) → ¬ (word ≡ work_word work)) → (work : Work) (file : Text) → ¬ (IsSpelled word behind (command_on work file))
+not_spelled-work word behind none work file s = none work (s.word_is ∙ word_of_work work file)
+
+pub not_spelled-command : (word : Text) (behind : List Text) → ¬ (word ≡ codes "compare") → ¬ (word ≡ codes "load")
+    → ((work : Work) (file : Text) → ¬ (IsSpelled word behind (command_on work file))) → (c : Command) → ¬ (IsSpelled word behind c)
+not_spelled-command word behind no_compare no_load none (on_file task file) s = none (Run task) file s
+not_spelled-command word behind no_compare no_load none (compare first second) s = no_compare s.word_is
+not_spelled-command word behind no_compare no_load none (lean file) s = none Lean file s
+not_spelled-command word behind no_compare no_load none (other file) s = none Other file s
+not_spelled-command word behind no_compare no_load none (load n) s = no_load s.word_is
+
+pub if_none-map : {T P Q : Type 0} (r : Option T) → (P → Q) → IfNone r P → IfNone r Q
+if_none-map None f p = f p
+if_none-map (Some x) f p = tt
 
 -- ---- words that are no command
 
@@ -204,13 +255,13 @@ command-of_parts word more rest options c a s fits t = record {
 }
 
 -- they are one command alone
-pub same_command_of_words : (words : List Text) (c d : Command) (given other : List Given) → IsCommand words c given → IsCommand words d other → (d ≡ c) × (other ≡ given)
-same_command_of_words [] c d given other k l = absurd (no_command-empty c given k)
-same_command_of_words (word ∷ more) c d given other k l =
+pub same_command_of_words : (words : List Text) (c d : Command) (given again : List Given) → IsCommand words c given → IsCommand words d again → (d ≡ c) × (again ≡ given)
+same_command_of_words [] c d given again k l = absurd (no_command-empty c given k)
+same_command_of_words (word ∷ more) c d given again k l =
     let a = options_of word more c given k in
-    let b = options_of word more d other l in
-    let s = same_options given other (operands c) (operands d) (operands_no_option c k.good_operands) (operands_no_option d l.good_operands) (sym a.spelled ∙ b.spelled) in
-    (same_command d c (sym (first_word word more d other l) ∙ first_word word more c given k) (sym s.1), s.0)
+    let b = options_of word more d again l in
+    let s = same_options given again (operands c) (operands d) (operands_no_option c k.good_operands) (operands_no_option d l.good_operands) (sym a.spelled ∙ b.spelled) in
+    (same_command d c (sym (first_word word more d again l) ∙ first_word word more c given k) (sym s.1), s.0)
 
 -- what holds of the request that was read holds of whatever command the words spell
 pub of_request : (words : List Text) (request : Request) (P : Command → Settings → Syntax → Type 0) → IsRequest words request

@@ -6,7 +6,7 @@ use Rattle.graph_model.specs.Graphs.{IsGraph, IsReached, mapped_triple}
 use Rattle.rdfc_cli.specs.Answers.{Content, Accepts, IsCause}
 use Rattle.rdfc_cli.specs.Completeness.{LeansGraphs}
 use Rattle.rdfc_cli.specs.Leaning.{HasGraphName, IsPastMaps}
-use Rattle.rdfc_cli.specs.declared.status.Status.TheVariants.{Done, Different, Usage, Unsettled, Refused, ReadFault, WriteFault, WorkLimit, NoMemory, Undecided, SearchLimit}
+use Rattle.rdfc_cli.specs.declared.status.Status.TheVariants.{Done, Unsettled, Refused, ReadFault, WriteFault, WorkLimit, NoMemory, SearchLimit}
 use Rattle.rdfc_cli.proofs.Headlines.{same_quads, of_told, no_cause_if_accepted}
 
 -- ---- lists of the same triples

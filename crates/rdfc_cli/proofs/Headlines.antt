@@ -27,7 +27,7 @@ use Rattle.rdfc_cli.specs.declared.files.TheConstants.{FILE_LIMIT}
 use Rattle.rdfc_cli.specs.Headline.{Writes, IsOneOutput, HasUnsettledTie, IsPastUnits, IsAnswered, Headline, IsComplete, CausesExclude}
 use Rattle.rdfc_cli.specs.declared.options.Settings.{Settings}
 use Rattle.rdfc_cli.specs.declared.words.Task.TheVariants.{Canon}
-use Rattle.rdfc_cli.specs.declared.status.Status.TheVariants.{Done, Different, Usage, Unsettled, Refused, ReadFault, WriteFault, WorkLimit, NoMemory, Undecided, SearchLimit}
+use Rattle.rdfc_cli.specs.declared.status.Status.TheVariants.{Done, Different, NoOther, Usage, Unsettled, NotFound, Refused, ReadFault, WriteFault, WorkLimit, NoMemory, Undecided, SearchLimit}
 use Rattle.rdfc_cli.specs.declared.status.Cause.{Cause}
 use Rattle.rdfc_cli.specs.declared.status.Cause.TheVariants.{TooLong, NotUtf8, BadLine, RelativeIri, BadTrig, UnknownPrefix, NoBase, TooManyQuads}
 
@@ -212,6 +212,8 @@ module _ {K : Type 0} (taken : K → Option Text) (faults : K → ℕ) where
   pub is_complete : IsComplete taken faults
   is_complete file task word bytes settings old new Done p a = tt
   is_complete file task word bytes settings old new Different p a = absurd a.1
+  is_complete file task word bytes settings old new NoOther p a = absurd a.1
+  is_complete file task word bytes settings old new (NotFound tie) p a = absurd a.1
   is_complete file task word bytes settings old new Usage p a = absurd a.1
   is_complete file task word bytes settings old new (Unsettled tie) p a = tt
   is_complete file task word bytes settings old new (Refused refusal) p a = elim a.1 [ inl r ↦ refused_never r.1 | inr r ↦ r.2 ]

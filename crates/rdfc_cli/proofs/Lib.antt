@@ -8,8 +8,10 @@ pub mod CommandWords
 pub mod Answering
 pub mod TieNodes
 pub mod ReportTexts
+pub mod OtherOutputs
 pub mod Pairing
 pub mod Headlines
 pub mod Leaning
 pub mod FineGraphs
 pub mod Alike
+pub mod OtherAnswers

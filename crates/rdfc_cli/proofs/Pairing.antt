@@ -19,7 +19,7 @@ use Rattle.rdfc_cli.specs.Reports.{label_in, label_text, pair_line, partner_line
 use Rattle.rdfc_cli.specs.declared.options.Settings.{Settings}
 use Rattle.rdfc_cli.specs.declared.output.Output.{Output}
 use Rattle.rdfc_cli.specs.declared.status.Status.{Status}
-use Rattle.rdfc_cli.specs.declared.status.Status.TheVariants.{Done, Different, Usage, Unsettled, Refused, ReadFault, WriteFault, WorkLimit, SearchLimit, NoMemory, Undecided}
+use Rattle.rdfc_cli.specs.declared.status.Status.TheVariants.{Done, Different, NoOther, Usage, Unsettled, NotFound, Refused, ReadFault, WriteFault, WorkLimit, SearchLimit, NoMemory, Undecided}
 
 -- ---- pairs
 
@@ -84,6 +84,8 @@ module _ (settings : Settings) (content other : Content) (within : IsWithin sett
   pub pair_stop-of_verdict : (status : Status) → IsVerdictStop verdict status → IsPairStop settings content other status
   pair_stop-of_verdict Done s = absurd s
   pair_stop-of_verdict Different s = (within, other_within, subst (IsVerdict (hashing_of settings) content.dataset other.dataset) s v)
+  pair_stop-of_verdict NoOther s = absurd s
+  pair_stop-of_verdict (NotFound tie) s = absurd s
   pair_stop-of_verdict Usage s = absurd s
   pair_stop-of_verdict (Unsettled tie) s = absurd s
   pair_stop-of_verdict (Refused refusal) s = absurd s

@@ -11,11 +11,12 @@ use Rattle.canonical_writer.proofs.Placing.{place-get_or}
 use Rattle.canon_model.specs.Hashing.{Hashing}
 use Rattle.canon_model.specs.Meaning.{meaning}
 use Rattle.canon_model.specs.JoinedTies.{IsSettled}
-use Rattle.canon_model.specs.Output.{IsOnlyOutput, IsWithinLimit, chosen_form}
-use Rattle.canon_core.specs.Canonical.{IsCanon, IsFirstUnsettled}
+use Rattle.canon_model.specs.Output.{IsOnlyOutput, chosen_form}
+use Rattle.canon_core.specs.Canonical.{IsFirstUnsettled}
 use Rattle.canon_core.specs.declared.canon.Canon.{Canon}
 use Rattle.ndegree_hash.specs.declared.tie.Tie.{Tie}
 use Rattle.rdfc_cli.specs.Answers.{Finds, IsRunText, hashing_of}
+use Rattle.rdfc_cli.specs.Forms.{IsCanonWithin}
 use Rattle.rdfc_cli.specs.Reports.{label_text, label_in, map_line}
 use Rattle.rdfc_cli.specs.declared.options.Settings.{Settings}
 use Rattle.rdfc_cli.specs.declared.output.Output.{Output}
@@ -40,11 +41,12 @@ finds-first : (ρ : Hashing) (D : Dataset) (bytes : Text) (found : Option Tie) �
 finds-first ρ D bytes None settled chosen only = record { settled = settled; only = subst (IsOnlyOutput ρ D) chosen (only settled) }
 finds-first ρ D bytes (Some tie) unsettled chosen only = unsettled
 
-pub run_text-of_run : (settings : Settings) (d : Document) (IsText : Hashing → Text → Type 0) (canon : Canon) (output : Output) → IsCanon (hashing_of settings) (dataset d) canon
-    → canon.profile ≡ settings.profile → IsWithinLimit (hashing_of settings) (dataset d) settings.limit
-    → IsText (meaning canon.profile) output.text → output.unsettled ≡ canon.unsettled → IsRunText settings output.unsettled IsText (dataset d) output.text
-run_text-of_run settings d IsText canon output c profile within text unsettled = record {
-  within = within;
-  finds = subst (λ found. Finds found (hashing_of settings) (dataset d)) (sym unsettled) (finds-first (hashing_of settings) (dataset d) canon.bytes canon.unsettled c.unsettled c.bytes.chosen c.only);
-  is_text = subst (λ p. IsText (meaning p) output.text) profile text;
-}
+pub run_text-of_run : (settings : Settings) (d : Document) (IsText : Hashing → Text → Type 0) (canon : Canon) (output : Output) → IsCanonWithin settings (dataset d) canon
+    → canon.profile ≡ settings.profile → IsText (meaning canon.profile) output.text → output.unsettled ≡ canon.unsettled → IsRunText settings output.unsettled IsText (dataset d) output.text
+run_text-of_run settings d IsText canon output run profile text unsettled =
+    let c = run.canon_is in
+    record {
+      within = run.within;
+      finds = subst (λ found. Finds found (hashing_of settings) (dataset d)) (sym unsettled) (finds-first (hashing_of settings) (dataset d) canon.bytes canon.unsettled c.unsettled c.bytes.chosen c.only);
+      is_text = subst (λ p. IsText (meaning p) output.text) profile text;
+    }

@@ -15,19 +15,22 @@ use Rattle.canon_model.specs.Meaning.{meaning}
 use Rattle.canon_model.specs.JoinedTies.{IsSettled}
 use Rattle.canon_model.specs.Output.{IsOnlyOutput, PassesLimit, IsWithinLimit, chosen_form}
 use Rattle.canon_core.specs.Canonical.{IsUnsettledBy}
+use Rattle.canon_core.specs.Outputs.{HasTwoOutputs}
+use Rattle.ndegree_hash.specs.Log.{tie_of}
 use Rattle.ndegree_hash.specs.declared.tie.Tie.{Tie}
 use Rattle.iso_compare.specs.Comparison.{AreDifferent, AreUndecided}
+use Rattle.other_output.specs.Along.{IsFormAlong, PassesLimitAlong}
 use Rattle.load_document.specs.LoadDocument.{load_document}
 use Rattle.rdfc_cli.specs.Puts.{IsCutShort}
 use Rattle.rdfc_cli.specs.Leaning.{IsLeaning, HasGraphName, IsPastMaps}
 use Rattle.rdfc_cli.specs.Reports.{IsTextOf, ArePartnerLines, IsSummary}
 use Rattle.rdfc_cli.specs.Words.{Command, Syntax}
-use Rattle.rdfc_cli.specs.Words.Command.{on_file, compare, lean, load}
+use Rattle.rdfc_cli.specs.Words.Command.{on_file, compare, lean, other, load}
 use Rattle.rdfc_cli.specs.Words.Syntax.{nquads, trig}
 use Rattle.rdfc_cli.specs.declared.files.TheConstants.{FILE_LIMIT}
 use Rattle.rdfc_cli.specs.declared.options.Settings.{Settings}
 use Rattle.rdfc_cli.specs.declared.status.Status.{Status}
-use Rattle.rdfc_cli.specs.declared.status.Status.TheVariants.{Done, Different, Unsettled, Refused, ReadFault, WriteFault, WorkLimit, NoMemory, Undecided, SearchLimit}
+use Rattle.rdfc_cli.specs.declared.status.Status.TheVariants.{Done, Different, NoOther, Unsettled, NotFound, Refused, ReadFault, WriteFault, WorkLimit, NoMemory, Undecided, SearchLimit}
 use Rattle.rdfc_cli.specs.declared.status.Cause.{Cause}
 use Rattle.rdfc_cli.specs.declared.status.Cause.TheVariants.{TooLong, NotUtf8, BadLine, RelativeIri, BadTrig, UnknownPrefix, NoBase, TooManyQuads, NotOneGraph}
 
@@ -143,10 +146,35 @@ pub record IsPairing (settings : Settings) (content other : Content) (text : Tex
   pub same_form : chosen_form (hashing_of settings) content.dataset ≡ chosen_form (hashing_of settings) other.dataset
   pub lines : ArePartnerLines content.dataset other.dataset content.labels other.labels text
 
+-- ---- another output of a dataset
+
+-- This is the first tie of the counted run that is not joined. The text is the form that is chosen when the nodes are
+-- numbered along it: its canonical list, its right list, then the others. The standard allows it (RDF Dataset
+-- Canonicalization, section 4.4), and it is not the form of the counted run: the dataset has two outputs.
+pub record IsOtherText (settings : Settings) (D : Dataset) (text : Text) : Type 0 where
+  pub within : IsWithin settings D
+  pub tie : Tie
+  pub unsettled : IsUnsettledBy (hashing_of settings) D tie
+  pub form : IsFormAlong (hashing_of settings) D (tie_of tie) text
+  pub differs : ¬ (chosen_form (hashing_of settings) D ≡ text)
+  pub two : HasTwoOutputs (hashing_of settings) D
+
+-- this is the first tie that is not joined, and the form along it is that of the counted run
+pub record HasSameFormAlong (tie : Tie) (ρ : Hashing) (D : Dataset) : Type 0 where
+  pub unsettled : IsUnsettledBy ρ D tie
+  pub form : IsFormAlong ρ D (tie_of tie) (chosen_form ρ D)
+
+-- the counted run is within the limit, and the run along its first tie that is not joined passes it
+pub record IsPastAlong (settings : Settings) (D : Dataset) : Type 0 where
+  pub within : IsWithin settings D
+  pub tie : Tie
+  pub unsettled : IsUnsettledBy (hashing_of settings) D tie
+  pub passes : PassesLimitAlong (hashing_of settings) D (tie_of tie) settings.limit
+
 -- ---- the whole text of a command
 
--- the text that the command writes, where its run finds this; a comparison has no tie to tell of where it writes, and
--- `lean` has no run
+-- the text that the command writes, where its run finds this; a comparison and `other` have no tie to tell of where they
+-- write, and `lean` has no run
 abbrev pub IsWritten : (Text → FileSeen) → Command → Settings → Option Tie → Text → Type 0
 IsWritten file (on_file task word) settings found text =
     IfAccepted (file word) (λ content. IsRunText settings found
@@ -155,6 +183,8 @@ IsWritten file (compare first second) settings found text =
     (found ≡ None) × AreBothAccepted (file first) (file second) (λ content other. IsPairing settings content other text)
 IsWritten file (lean word) settings found text =
     (found ≡ None) × IfAccepted (file word) (λ content. IsLeaning settings.map settings.limit content.dataset text)
+IsWritten file (other word) settings found text =
+    (found ≡ None) × IfAccepted (file word) (λ content. IsOtherText settings content.dataset text)
 IsWritten file (load n) settings found text =
     IfLoaded n (λ content. IsRunText settings found (λ ρ. IsSummary ρ content.dataset) content.dataset text)
 
@@ -168,6 +198,7 @@ IsOfFile file (compare first second) place Fact =
     ((place ≡ 0) × Fact (file first)) ⊎ ((place ≡ 1) × IfAccepted (file first) (λ content. Unit {0})
     × Fact (file second))
 IsOfFile file (lean word) place Fact = (place ≡ 0) × Fact (file word)
+IsOfFile file (other word) place Fact = (place ≡ 0) × Fact (file word)
 IsOfFile file (load n) place Fact = ⊥
 
 -- the file of the command is accepted, and a quad of it has a graph name where the command wants none
@@ -181,7 +212,8 @@ IsRefused file command place cause =
     IsOfFile file command place (λ seen. IfSome seen.told (λ bytes. IsCause seen.syntax bytes cause))
     ⊎ ((cause ≡ NotOneGraph) × (place ≡ 0) × IsNoGraph file command)
 
--- the first dataset of the command whose counted run passes the limit has this place
+-- the first dataset of the command whose counted run passes the limit has this place; with `other` that run is either of
+-- the two
 abbrev pub IsPastLimit : (Text → FileSeen) → Command → Settings → ℕ → Type 0
 IsPastLimit file (on_file task word) settings place =
     (place ≡ 0) × IfAccepted (file word) (λ content. IsPast settings content.dataset)
@@ -189,6 +221,8 @@ IsPastLimit file (compare first second) settings place =
     AreBothAccepted (file first) (file second) (λ content other. ((place ≡ 0) × IsPast settings content.dataset)
     ⊎ ((place ≡ 1) × IsWithin settings content.dataset × IsPast settings other.dataset))
 IsPastLimit file (lean word) settings place = ⊥
+IsPastLimit file (other word) settings place =
+    (place ≡ 0) × IfAccepted (file word) (λ content. IsPast settings content.dataset ⊎ IsPastAlong settings content.dataset)
 IsPastLimit file (load n) settings place = (place ≡ 0) × IfLoaded n (λ content. IsPast settings content.dataset)
 
 -- the command compares two datasets whose counted runs are within the limit, and this holds of them
@@ -197,6 +231,12 @@ AreCompared file (compare first second) settings Fact =
     AreBothAccepted (file first) (file second) (λ content other. IsWithin settings content.dataset
     × IsWithin settings other.dataset × Fact (hashing_of settings) content.dataset other.dataset)
 AreCompared file command settings Fact = ⊥
+
+-- the command looks for another output of a dataset whose counted run is within the limit, and this holds of it
+abbrev pub IsSought : (Text → FileSeen) → Command → Settings → (Hashing → Dataset → Type 0) → Type 0
+IsSought file (other word) settings Fact =
+    IfAccepted (file word) (λ content. IsWithin settings content.dataset × Fact (hashing_of settings) content.dataset)
+IsSought file command settings Fact = ⊥
 
 -- the command leans a graph that this is an image of, with a component that has more partial maps than the limit
 abbrev pub IsPastSearchLimit : (Text → FileSeen) → Command → Settings → List Quad → Type 0
@@ -210,6 +250,8 @@ Stops file command settings (Refused refusal) = IsRefused file command refusal.f
 Stops file command settings (ReadFault place) = IsOfFile file command place (λ seen. Rose seen.faults seen.faults_now)
 Stops file command settings (WorkLimit place limit) = (limit ≡ settings.limit) × IsPastLimit file command settings place
 Stops file command settings Different = AreCompared file command settings AreDifferent
+Stops file command settings NoOther = IsSought file command settings IsDone
+Stops file command settings (NotFound tie) = IsSought file command settings (HasSameFormAlong tie)
 Stops file command settings (Undecided s t) = AreCompared file command settings (λ ρ D E. AreUndecided ρ D E s t)
 Stops file command settings (SearchLimit limit image) =
     (limit ≡ settings.limit) × IsPastSearchLimit file command settings image
@@ -218,7 +260,7 @@ Stops file command settings status = ⊥
 -- ---- the answer
 
 module _ {K : Type 0} (taken : K → Option Text) (faults : K → ℕ) where
-  -- With `Done` the whole text was taken, and each tie of the run is joined; with `Unsettled` too, but for the tie that
+  -- With `Done` the whole text was taken, and each tie of the run is joined, but where the text is another output; with `Unsettled` too, but for the tie that
   -- is carried; with `WriteFault` a proper prefix was taken, where a call on the sink failed.
   -- With each other status nothing was put, and it has its cause.
   abbrev pub Answers : (Text → FileSeen) → Command → Settings → K → K → Status → Type 0

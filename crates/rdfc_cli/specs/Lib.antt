@@ -12,3 +12,4 @@ pub mod Outputs
 pub mod Forms
 pub mod Headline
 pub mod Completeness
+pub mod OtherOutputs

@@ -9,7 +9,7 @@ use Rattle.rdfc_cli.specs.declared.files.TheConstants.{FILE_LIMIT}
 use Rattle.rdfc_cli.specs.declared.notes.Part.{Part}
 use Rattle.rdfc_cli.specs.declared.notes.Part.TheVariants.{Text as Piece, Number}
 use Rattle.rdfc_cli.specs.declared.status.Status.{Status}
-use Rattle.rdfc_cli.specs.declared.status.Status.TheVariants.{Done, Different, Usage, Unsettled, Refused, ReadFault, WriteFault, WorkLimit, NoMemory, Undecided, SearchLimit}
+use Rattle.rdfc_cli.specs.declared.status.Status.TheVariants.{Done, Different, NoOther, Usage, Unsettled, NotFound, Refused, ReadFault, WriteFault, WorkLimit, NoMemory, Undecided, SearchLimit}
 use Rattle.rdfc_cli.specs.declared.status.Cause.{Cause}
 use Rattle.rdfc_cli.specs.declared.status.Cause.TheVariants.{TooLong, NotUtf8, BadLine, RelativeIri, BadTrig, UnknownPrefix, NoBase, TooManyQuads, NotOneGraph}
 
@@ -33,8 +33,10 @@ cause_text NotOneGraph = codes ": a quad has a graph name"
 abbrev pub status_text : (ℕ → Text) → Status → Text
 status_text word Done = []
 status_text word Different = codes "not isomorphic"
+status_text word NoOther = codes "no other output"
 status_text word Usage = codes "the words are not a command"
 status_text word (Unsettled tie) = word 0 ++ codes ": a tie is unsettled"
+status_text word (NotFound tie) = word 0 ++ codes ": no other output was found"
 status_text word (Refused refusal) = word refusal.file ++ cause_text refusal.cause
 status_text word (ReadFault place) = word place ++ codes ": read failed"
 status_text word WriteFault = codes "write failed"

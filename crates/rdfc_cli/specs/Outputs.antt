@@ -1,5 +1,5 @@
 -- A text that is ready to be written, and what the run that it comes from found.
-use Rattle.std.specs.Prelude.{◌≡◌, ℕ, Option, Some, None}
+use Rattle.std.specs.Prelude.{◌≡◌, ℕ, ◌⊎◌, Option, Some, None}
 use Rattle.std.specs.Io.KnownBytes.{Appends}
 use Rattle.rdf_terms.specs.Vocabulary.{Text, Document, dataset, statements}
 use Rattle.lean_search.specs.declared.form.LeanStop.{LeanStop}
@@ -7,14 +7,17 @@ use Rattle.lean_search.specs.declared.form.LeanStop.TheVariants.{NotOneGraph as 
 use Rattle.rdfc_cli.specs.Puts.{IsCutShort}
 use Rattle.rdfc_cli.specs.Leaning.{IsLeaning, HasGraphName, IsPastMaps}
 use Rattle.rdfc_cli.specs.Reports.{IsTextOf, IsSummary}
-use Rattle.canon_model.specs.Output.{PassesLimit}
-use Rattle.rdfc_cli.specs.Answers.{IsRunText, hashing_of}
+use Rattle.rdfc_cli.specs.Answers.{IsWithin, IsPast, IsDone, IsRunText, IsOtherText, HasSameFormAlong, IsPastAlong, hashing_of}
+use Rattle.ndegree_hash.specs.declared.stop.Stop.{Stop}
+use Rattle.ndegree_hash.specs.declared.stop.Stop.TheVariants.{WorkLimit as WorkLimitStop, NoMemory as NoMemoryRun}
 use Rattle.rdfc_cli.specs.declared.options.Settings.{Settings}
 use Rattle.rdfc_cli.specs.declared.output.Output.{Output}
 use Rattle.rdfc_cli.specs.declared.words.Task.{Task}
+use Rattle.rdfc_cli.specs.declared.words.Work.{Work}
+use Rattle.rdfc_cli.specs.declared.words.Work.TheVariants.{Run, Lean, Other}
 use Rattle.rdfc_cli.specs.declared.status.Cause.TheVariants.{NotOneGraph}
 use Rattle.rdfc_cli.specs.declared.status.Status.{Status}
-use Rattle.rdfc_cli.specs.declared.status.Status.TheVariants.{Done, Unsettled, Refused, WriteFault, WorkLimit, NoMemory, SearchLimit}
+use Rattle.rdfc_cli.specs.declared.status.Status.TheVariants.{Done, NoOther, Unsettled, NotFound, Refused, WriteFault, WorkLimit, NoMemory, SearchLimit}
 
 -- the output of a task for the dataset of this document
 abbrev pub IsTaskOutput : Task → Settings → Document → Output → Type 0
@@ -36,7 +39,7 @@ Delivers before now output status = ⊥
 -- why there is no output of the dataset of this document
 abbrev pub IsRunStop : Settings → Document → Status → Type 0
 IsRunStop settings d (WorkLimit place limit) =
-    (place ≡ 0) × (limit ≡ settings.limit) × PassesLimit (hashing_of settings) (dataset d) settings.limit
+    (place ≡ 0) × (limit ≡ settings.limit) × IsPast settings (dataset d)
 IsRunStop settings d NoMemory = Unit {0}
 IsRunStop settings d status = ⊥
 
@@ -58,3 +61,34 @@ IsLeanEnd settings d (Refused refusal) =
 IsLeanEnd settings d (SearchLimit limit image) = (limit ≡ settings.limit) × IsPastMaps (dataset d) settings.limit image
 IsLeanEnd settings d NoMemory = Unit {0}
 IsLeanEnd settings d status = ⊥
+
+-- the status that a run ends with that the counted run stopped
+abbrev pub EndsRun : Stop → ℕ → Status → Type 0
+EndsRun WorkLimitStop limit status = status ≡ WorkLimit 0 limit
+EndsRun NoMemoryRun limit status = status ≡ NoMemory
+
+-- another output of the dataset of this document
+abbrev pub IsOtherOutput : Settings → Document → Output → Type 0
+IsOtherOutput settings d output = (output.unsettled ≡ None) × IsOtherText settings (dataset d) output.text
+
+-- why there is none of it
+abbrev pub IsOtherEnd : Settings → Document → Status → Type 0
+IsOtherEnd settings d (WorkLimit place limit) =
+    (place ≡ 0) × (limit ≡ settings.limit) × (IsPast settings (dataset d) ⊎ IsPastAlong settings (dataset d))
+IsOtherEnd settings d NoOther = IsWithin settings (dataset d) × IsDone (hashing_of settings) (dataset d)
+IsOtherEnd settings d (NotFound tie) =
+    IsWithin settings (dataset d) × HasSameFormAlong tie (hashing_of settings) (dataset d)
+IsOtherEnd settings d NoMemory = Unit {0}
+IsOtherEnd settings d status = ⊥
+
+-- ---- by what is done with a file
+
+abbrev pub IsWorkOutput : Work → Settings → Document → Output → Type 0
+IsWorkOutput (Run task) settings d output = IsTaskOutput task settings d output
+IsWorkOutput Lean settings d output = IsLeanOutput settings d output
+IsWorkOutput Other settings d output = IsOtherOutput settings d output
+
+abbrev pub IsWorkEnd : Work → Settings → Document → Status → Type 0
+IsWorkEnd (Run task) settings d status = IsRunStop settings d status
+IsWorkEnd Lean settings d status = IsLeanEnd settings d status
+IsWorkEnd Other settings d status = IsOtherEnd settings d status

@@ -1,21 +1,33 @@
 -- What the words of a command line were read as.
-use Rattle.std.specs.Prelude.{◌≡◌, List, IfSome, option_copied}
+use Rattle.std.specs.Prelude.{◌≡◌, List, IfSome, option_copied, codes}
 use Rattle.rdf_terms.specs.Lists.{Text}
 use Rattle.trig_builder.specs.Building.{IsWhole as IsBase}
-use Rattle.rdfc_cli.specs.Words.{Command, Given, Syntax, IsCommand, command_word, operands, HasGoodOperands}
+use Rattle.rdfc_cli.specs.Words.{Command, Given, Syntax, IsCommand, task_word, command_word, operands, HasGoodOperands}
 use Rattle.rdfc_cli.specs.Options.{settings_in, syntax_in}
-use Rattle.rdfc_cli.specs.Words.Command.{on_file, compare, lean, load}
+use Rattle.rdfc_cli.specs.Words.Command.{on_file, compare, lean, other, load}
 use Rattle.rdfc_cli.specs.Words.Syntax.{nquads, trig}
 use Rattle.rdfc_cli.specs.declared.options.Syntax.{Syntax as ReadSyntax}
 use Rattle.rdfc_cli.specs.declared.options.Syntax.TheVariants.{NQuads, TriG}
 use Rattle.rdfc_cli.specs.declared.words.Command.{Command as ReadCommand}
-use Rattle.rdfc_cli.specs.declared.words.Command.TheVariants.{OnFile, Compare, Lean, Load}
+use Rattle.rdfc_cli.specs.declared.words.Command.TheVariants.{OnFile, Compare, Load}
+use Rattle.rdfc_cli.specs.declared.words.Work.{Work}
+use Rattle.rdfc_cli.specs.declared.words.Work.TheVariants.{Run, Lean, Other}
 use Rattle.rdfc_cli.specs.declared.words.Request.{Request}
 
+-- the word of what is done with a file
+abbrev pub work_word : Work → Text
+work_word (Run task) = task_word task
+work_word Lean = codes "lean"
+work_word Other = codes "other"
+
+abbrev pub command_on : Work → Text → Command
+command_on (Run task) file = on_file task file
+command_on Lean file = lean file
+command_on Other file = other file
+
 abbrev pub command_of : ReadCommand → Command
-command_of (OnFile task file) = on_file task file.now
+command_of (OnFile work file) = command_on work file.now
 command_of (Compare first second) = compare first.now second.now
-command_of (Lean file) = lean file.now
 command_of (Load number) = load number
 
 abbrev pub syntax_of : ReadSyntax → Syntax

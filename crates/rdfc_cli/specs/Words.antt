@@ -20,6 +20,7 @@ pub data Command : Type 0 where
   on_file : Task → Text → Command
   compare : Text → Text → Command
   lean : Text → Command
+  other : Text → Command
   load : ℕ → Command
 
 abbrev pub task_word : Task → Text
@@ -32,12 +33,14 @@ abbrev pub command_word : Command → Text
 command_word (on_file task file) = task_word task
 command_word (compare first second) = codes "compare"
 command_word (lean file) = codes "lean"
+command_word (other file) = codes "other"
 command_word (load n) = codes "load"
 
 abbrev pub operands : Command → List Text
 operands (on_file task file) = file ∷ []
 operands (compare first second) = first ∷ second ∷ []
 operands (lean file) = file ∷ []
+operands (other file) = file ∷ []
 operands (load n) = numeral n ∷ []
 
 -- a file's word is not empty and does not begin with a dash
@@ -49,6 +52,7 @@ abbrev pub HasGoodOperands : Command → Type 0
 HasGoodOperands (on_file task file) = IsFileWord file
 HasGoodOperands (compare first second) = IsFileWord first × IsFileWord second
 HasGoodOperands (lean file) = IsFileWord file
+HasGoodOperands (other file) = IsFileWord file
 HasGoodOperands (load n) = (LEAST_NUMBER ≤ n) × (n ≤ GREATEST_NUMBER)
 
 -- the word of a file of the command, by its place, counted from 0; a document that is made is called `load`
@@ -56,6 +60,7 @@ abbrev pub file_word : Command → ℕ → Text
 file_word (on_file task file) place = file
 file_word (compare first second) place = if place == 0 then first else second
 file_word (lean file) place = file
+file_word (other file) place = file
 file_word (load n) place = codes "load"
 
 -- ---- options

@@ -4,172 +4,65 @@ ghost use Rattle.rdf_terms.specs.Lists.{Text};
 ghost use Rattle.outside.specs.Faults.{Rose};
 ghost use Rattle.rdfc_cli.specs.Words.{Command as SpelledCommand, Given, HasGoodOperands, IsCommand, IsNoCommand, file_word};
 ghost use Rattle.rdfc_cli.specs.Options.{settings_in, syntax_in};
-ghost use Rattle.rdfc_cli.specs.Words.Command.{on_file, compare, lean, load};
-ghost use Rattle.rdfc_cli.specs.Requests.{command_of, syntax_of, HasGoodBase};
+ghost use Rattle.rdfc_cli.specs.Words.Command.{compare, load};
+ghost use Rattle.rdfc_cli.specs.Requests.{command_of, command_on, syntax_of, HasGoodBase};
 ghost use Rattle.rdfc_cli.specs.Answers.{FileSeen, seen, IsWritten, Stops, Answers};
-ghost use Rattle.rdfc_cli.specs.FileFaults.{IsFaultStatus};
-ghost use Rattle.rdfc_cli.specs.Outputs.{Delivers, IsTaskOutput, IsRunStop, IsLeanOutput, IsLeanEnd, EndsAs};
+ghost use Rattle.rdfc_cli.specs.Outputs.{Delivers, IsWorkOutput, IsWorkEnd};
 ghost use Rattle.rdfc_cli.specs.Notes.{IsNoted, PutsLine, usage_line};
 
 use crate::comparison::output_of_forms;
 use crate::dataset_file::read_dataset;
-use crate::files::FileFault;
 use crate::form::form_of_file;
-use crate::lean_text::lean_text;
+use crate::lean_text::lean_output;
 use crate::made::{made_dataset, summary_output};
 use crate::notes::{put_note, put_usage};
 use crate::options::{Settings, Syntax};
+use crate::other_text::other_output;
 use crate::output::{Output, task_output};
-use crate::status::{Cause, Refusal, Status};
-use crate::words::{Command, Request, Task, read_words};
+use crate::status::Status;
+use crate::words::{Command, Request, Work, read_words};
 use crate::write::put_all;
 use dataset_index::Dataset;
-use lean_search::LeanStop;
 use load_document::{GREATEST_NUMBER, LEAST_NUMBER};
-use ndegree_hash::{Stop, Tie};
+use ndegree_hash::Tie;
 use outside::{Shelf, Sink};
-use rdf_terms::NoMemory;
 use std::alloc::Global;
 use std::hash::RandomState;
 
-impl FileFault {
-    // The status that it ends a run with, where it is of the file at this place of the command.
-    fn status(self, place: u8) -> Status
-        ensures { IsFaultStatus self place result }
-    {
-        match self {
-            FileFault::Failed => Status::ReadFault { file: place },
-            FileFault::Refused(cause) => Status::Refused(Refusal { file: place, cause }),
-            FileFault::NoMemory => Status::NoMemory,
-        }
-    }
-}
-
-// What a task writes for a dataset, or how the run stops.
+// What is written of the dataset of a file, or how the run stops.
 fn output_of_dataset(
     alloc: Global,
-    task: Task,
+    keys: RandomState,
+    work: Work,
     settings: Settings,
     dataset: &Dataset,
 ) -> Result<Output, Status>
-    ensures output { IfOk result (IsTaskOutput task settings dataset.now) }
-    ensures stops { IfErr result (IsRunStop settings dataset.now) }
+    ensures output { IfOk result (IsWorkOutput work settings dataset.now) }
+    ensures stops { IfErr result (IsWorkEnd work settings dataset.now) }
 {
-    match task_output(alloc, task, settings, dataset) {
-        Ok(output) => Ok(output),
-        Err(Stop::WorkLimit) => Err(Status::WorkLimit {
-            file: 0,
-            limit: settings.limit,
-        }),
-        Err(Stop::NoMemory) => Err(Status::NoMemory),
+    match work {
+        Work::Run(task) => task_output(alloc, task, settings, dataset),
+        Work::Lean => lean_output(alloc, settings, dataset),
+        Work::Other => other_output(alloc, keys, settings, dataset),
     }
 }
 
-// What a task writes for a file.
+// What is written of a file.
 fn output_of_file<S: Shelf>(
     alloc: Global,
     keys: RandomState,
-    task: Task,
+    work: Work,
     settings: Settings,
     shelf: &mut S,
     syntax: Syntax<'_>,
     file: &str,
 ) -> Result<Output, Status>
     requires base { HasGoodBase (syntax_of syntax) }
-    ensures output { IfOk result (λ output. IsWritten (seen (syntax_of syntax.entry) S.told S.faults shelf.old shelf.new) (on_file task file.now) settings output.unsettled output.text) }
-    ensures stops { IfErr result (Stops (seen (syntax_of syntax.entry) S.told S.faults shelf.old shelf.new) (on_file task file.now) settings) }
+    ensures output { IfOk result (λ output. IsWritten (seen (syntax_of syntax.entry) S.told S.faults shelf.old shelf.new) (command_on work file.now) settings output.unsettled output.text) }
+    ensures stops { IfErr result (Stops (seen (syntax_of syntax.entry) S.told S.faults shelf.old shelf.new) (command_on work file.now) settings) }
 {
     match read_dataset(alloc, keys, shelf, syntax, file) {
-        Ok(dataset) => output_of_dataset(alloc, task, settings, &dataset),
-        Err(fault) => Err(fault.status(0)),
-    }
-}
-
-fn output_of<S: Shelf>(
-    alloc: Global,
-    keys: RandomState,
-    request: Request<'_>,
-    shelf: &mut S,
-) -> Result<Output, Status>
-    requires operands { HasGoodOperands (command_of request.command) }
-    requires base { HasGoodBase (syntax_of request.syntax) }
-    ensures output { IfOk result (λ output. IsWritten (seen (syntax_of request.entry.syntax) S.told S.faults shelf.old shelf.new) (command_of request.entry.command) request.entry.settings output.unsettled output.text) }
-    ensures stops { IfErr result (Stops (seen (syntax_of request.entry.syntax) S.told S.faults shelf.old shelf.new) (command_of request.entry.command) request.entry.settings) }
-{
-    match request.command {
-        Command::OnFile { task, file } => output_of_file(
-            alloc,
-            keys,
-            task,
-            request.settings,
-            shelf,
-            request.syntax,
-            file,
-        ),
-        Command::Compare { first, second } => output_of_pair(
-            alloc,
-            keys,
-            request.settings,
-            shelf,
-            request.syntax,
-            first,
-            second,
-        ),
-        Command::Lean { file } => output_of_graph(
-            alloc,
-            keys,
-            request.settings,
-            shelf,
-            request.syntax,
-            file,
-        ),
-        Command::Load { number } => output_of_number(alloc, keys, request.settings, number),
-    }
-}
-
-// How a run ends that leans no graph.
-fn lean_status(stop: LeanStop, limit: u64) -> Status
-    ensures { EndsAs stop limit result }
-{
-    match stop {
-        LeanStop::NotOneGraph { .. } => Status::Refused(Refusal {
-            file: 0,
-            cause: Cause::NotOneGraph,
-        }),
-        LeanStop::SearchLimit { image } => Status::SearchLimit { limit, image },
-        LeanStop::NoMemory => Status::NoMemory,
-    }
-}
-
-// What is written of a graph, or how the run stops.
-fn output_of_lean(alloc: Global, settings: Settings, graph: &Dataset) -> Result<Output, Status>
-    ensures output { IfOk result (IsLeanOutput settings graph.now) }
-    ensures stops { IfErr result (IsLeanEnd settings graph.now) }
-{
-    match lean_text(alloc, settings, graph) {
-        Ok(text) => Ok(Output {
-            text,
-            unsettled: None,
-        }),
-        Err(stop) => Err(lean_status(stop, settings.limit)),
-    }
-}
-
-// What is written of the graph of a file.
-fn output_of_graph<S: Shelf>(
-    alloc: Global,
-    keys: RandomState,
-    settings: Settings,
-    shelf: &mut S,
-    syntax: Syntax<'_>,
-    file: &str,
-) -> Result<Output, Status>
-    requires base { HasGoodBase (syntax_of syntax) }
-    ensures output { IfOk result (λ output. IsWritten (seen (syntax_of syntax.entry) S.told S.faults shelf.old shelf.new) (lean file.now) settings output.unsettled output.text) }
-    ensures stops { IfErr result (Stops (seen (syntax_of syntax.entry) S.told S.faults shelf.old shelf.new) (lean file.now) settings) }
-{
-    match read_dataset(alloc, keys, shelf, syntax, file) {
-        Ok(graph) => output_of_lean(alloc, settings, &graph),
+        Ok(dataset) => output_of_dataset(alloc, keys, work, settings, &dataset),
         Err(fault) => Err(fault.status(0)),
     }
 }
@@ -211,9 +104,35 @@ fn output_of_number(
     ensures output { (file : Text → FileSeen) → IfOk result (λ output. IsWritten file (load number) settings output.unsettled output.text) }
     ensures stops { (file : Text → FileSeen) → IfErr result (Stops file (load number) settings) }
 {
-    match made_dataset(alloc, keys, number) {
-        Ok(dataset) => summary_output(alloc, settings, &dataset),
-        Err(NoMemory) => Err(Status::NoMemory),
+    let dataset = made_dataset(alloc, keys, number)?;
+    summary_output(alloc, settings, &dataset)
+}
+
+// What a command writes, or how the run stops.
+fn output_of<S: Shelf>(
+    alloc: Global,
+    keys: RandomState,
+    request: Request<'_>,
+    shelf: &mut S,
+) -> Result<Output, Status>
+    requires operands { HasGoodOperands (command_of request.command) }
+    requires base { HasGoodBase (syntax_of request.syntax) }
+    ensures output { IfOk result (λ output. IsWritten (seen (syntax_of request.entry.syntax) S.told S.faults shelf.old shelf.new) (command_of request.entry.command) request.entry.settings output.unsettled output.text) }
+    ensures stops { IfErr result (Stops (seen (syntax_of request.entry.syntax) S.told S.faults shelf.old shelf.new) (command_of request.entry.command) request.entry.settings) }
+{
+    let Request {
+        command,
+        settings,
+        syntax,
+    } = request;
+    match command {
+        Command::OnFile { work, file } => {
+            output_of_file(alloc, keys, work, settings, shelf, syntax, file)
+        }
+        Command::Compare { first, second } => {
+            output_of_pair(alloc, keys, settings, shelf, syntax, first, second)
+        }
+        Command::Load { number } => output_of_number(alloc, keys, settings, number),
     }
 }
 

@@ -53,13 +53,10 @@ fn output_of_verdict(
     ensures stops { IfErr result (IsVerdictStop verdict) }
 {
     match verdict {
-        Verdict::Same(map) => match text_of_pairs(alloc, labels, others, map.pairs.as_slice()) {
-            Ok(text) => Ok(Output {
-                text,
-                unsettled: None,
-            }),
-            Err(NoMemory) => Err(Status::NoMemory),
-        },
+        Verdict::Same(map) => Ok(Output {
+            text: text_of_pairs(alloc, labels, others, map.pairs.as_slice())?,
+            unsettled: None,
+        }),
         Verdict::Different => Err(Status::Different),
         Verdict::Undecided(tie, other) => Err(Status::Undecided(tie, other)),
     }
@@ -89,8 +86,6 @@ pub(crate) fn output_of_forms(
     let Some(other) = other else {
         return Err(Status::WorkLimit { file: 1, limit });
     };
-    match compare_forms(alloc, canon, other) {
-        Ok(verdict) => output_of_verdict(alloc, &labels, &others, verdict),
-        Err(NoMemory) => Err(Status::NoMemory),
-    }
+    let verdict = compare_forms(alloc, canon, other)?;
+    output_of_verdict(alloc, &labels, &others, verdict)
 }

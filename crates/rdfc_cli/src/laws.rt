@@ -2,6 +2,7 @@
 
 ghost use Rattle.rdfc_cli.specs.Completeness.{FindsBijections, LeansGraphs};
 ghost use Rattle.rdfc_cli.specs.Headline.{CausesExclude, Headline, IsComplete};
+ghost use Rattle.rdfc_cli.specs.OtherOutputs.{FindsOthers};
 
 use outside::Sink;
 
@@ -25,6 +26,13 @@ pub fn comparison_is_complete<K: Sink>()
 /// partial maps than the limit, `lean` writes its text whole, unless memory is refused.
 pub fn lean_is_complete<K: Sink>()
     ensures { LeansGraphs K.taken K.faults }
+{}
+
+/// Where a file is accepted, no call failed, and its canonical run and the one along its first tie that is not joined are
+/// within the limit, `other` writes another output whole, or says that there is none or that none was found, unless
+/// memory is refused.
+pub fn other_is_complete<K: Sink>()
+    ensures { FindsOthers K.taken K.faults }
 {}
 
 /// Bytes are refused for one cause, and those that are accepted for none.

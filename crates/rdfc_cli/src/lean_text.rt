@@ -3,8 +3,12 @@ ghost use Rattle.std.specs.Prelude.{◌≡◌, ℕ, ◌++◌, ◌<◌, length, I
 ghost use Rattle.rdf_terms.specs.Document.{dataset as dataset_of, term_at};
 ghost use Rattle.lean_search.specs.Lean.{IsLeanForm, IsLeanStop};
 ghost use Rattle.rdfc_cli.specs.Leaning.{IsLeanText, IsLeanMapText, IsLeaning, line_of};
+ghost use Rattle.rdfc_cli.specs.Outputs.{IsLeanOutput, IsLeanEnd};
 
+use crate::ends::status_of_lean;
 use crate::options::Settings;
+use crate::output::Output;
+use crate::status::Status;
 use canonical_writer::{NumberNames, push_numbered, push_term, write_sorted};
 use dataset_index::Dataset;
 use lean_search::{LeanForm, LeanStop, lean};
@@ -63,11 +67,7 @@ fn map_text(alloc: Global, graph: &Dataset, form: &LeanForm) -> Result<Bytes, No
 }
 
 // The text of the lean form of a graph: the map where the settings say so, and else the graph.
-pub(crate) fn lean_text(
-    alloc: Global,
-    settings: Settings,
-    graph: &Dataset,
-) -> Result<Bytes, LeanStop>
+fn lean_text(alloc: Global, settings: Settings, graph: &Dataset) -> Result<Bytes, LeanStop>
     ensures text { IfOk result (IsLeaning settings.map settings.limit (dataset_of graph.now)) }
     ensures stop { IfErr result (IsLeanStop graph.now settings.limit) }
 {
@@ -78,4 +78,22 @@ pub(crate) fn lean_text(
         graph_text(alloc, graph, &form)?
     };
     Ok(text)
+}
+
+// What is written of a graph, or how the run stops.
+pub(crate) fn lean_output(
+    alloc: Global,
+    settings: Settings,
+    graph: &Dataset,
+) -> Result<Output, Status>
+    ensures output { IfOk result (IsLeanOutput settings graph.now) }
+    ensures stops { IfErr result (IsLeanEnd settings graph.now) }
+{
+    match lean_text(alloc, settings, graph) {
+        Ok(text) => Ok(Output {
+            text,
+            unsettled: None,
+        }),
+        Err(stop) => Err(status_of_lean(stop, settings.limit)),
+    }
 }

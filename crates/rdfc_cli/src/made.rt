@@ -11,13 +11,12 @@ ghost use Rattle.rdfc_cli.specs.Words.Syntax.{nquads};
 ghost use Rattle.rdfc_cli.specs.Reports.{IsSummary, summary_text};
 
 use crate::options::Settings;
-use crate::output::Output;
+use crate::output::{Output, canonical_run};
 use crate::report::{push_count, push_counts};
 use crate::status::Status;
-use canon_core::{Canon, canonicalise};
+use canon_core::Canon;
 use dataset_index::Dataset;
 use load_document::{GREATEST_NUMBER, LEAST_NUMBER, generate};
-use ndegree_hash::Stop;
 use nquads_reader::{ReadFault, read_nquads};
 use rdf_terms::{Bytes, NoMemory, Parsed};
 use std::alloc::Global;
@@ -97,15 +96,6 @@ pub(crate) fn summary_output(
     ensures output { IfOk result (IsSummaryOutput settings dataset.now) }
     ensures stops { IfErr result (IsRunStop settings dataset.now) }
 {
-    match canonicalise(alloc, dataset, settings.limit, settings.profile) {
-        Ok(canon) => match output_of_run(alloc, dataset, canon) {
-            Ok(output) => Ok(output),
-            Err(NoMemory) => Err(Status::NoMemory),
-        },
-        Err(Stop::WorkLimit) => Err(Status::WorkLimit {
-            file: 0,
-            limit: settings.limit,
-        }),
-        Err(Stop::NoMemory) => Err(Status::NoMemory),
-    }
+    let canon = canonical_run(alloc, settings, dataset)?;
+    Ok(output_of_run(alloc, dataset, canon)?)
 }

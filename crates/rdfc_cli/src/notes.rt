@@ -121,8 +121,12 @@ fn put_status<N: Sink>(notes: &mut N, status: &Status, command: &Command<'_>) ->
     match status {
         Status::Done => Ok(()),
         Status::Different => put_all(notes, b"not isomorphic"),
+        Status::NoOther => put_all(notes, b"no other output"),
         Status::Usage => put_all(notes, b"the words are not a command"),
         Status::Unsettled(_) => put_of_file(notes, command.file_word(0), ": a tie is unsettled"),
+        Status::NotFound(_) => {
+            put_of_file(notes, command.file_word(0), ": no other output was found")
+        }
         Status::Refused(refusal) => {
             put_refusal(notes, command.file_word(refusal.file), refusal.cause)
         }

@@ -1,20 +1,20 @@
 //! What a command writes for a dataset.
-ghost use Rattle.std.specs.Prelude.{◌≡◌, ◌++◌, length, IfOk, OnOk, codes};
+ghost use Rattle.std.specs.Prelude.{◌≡◌, ◌++◌, IfOk, IfErr, codes};
 ghost use Rattle.rdf_terms.specs.Document.{dataset as dataset_of};
 ghost use Rattle.canon_model.specs.Meaning.{meaning};
-ghost use Rattle.canon_model.specs.Output.{IsWithinLimit, PassesLimit};
 ghost use Rattle.canon_core.specs.Canonical.{IsCanon};
-ghost use Rattle.rdfc_cli.specs.Answers.{IsRunText};
 ghost use Rattle.rdfc_cli.specs.Reports.{IsTextOf};
-ghost use Rattle.rdfc_cli.specs.Outputs.{IsTaskOutput};
-ghost use Rattle.rdfc_cli.specs.Answers.{hashing_of};
+ghost use Rattle.rdfc_cli.specs.Forms.{IsCanonWithin};
+ghost use Rattle.rdfc_cli.specs.Outputs.{IsTaskOutput, IsRunStop};
 
+use crate::ends::status_of_run;
 use crate::options::Settings;
 use crate::report::{map_of_names, report_of_ties};
+use crate::status::Status;
 use crate::words::Task;
 use canon_core::{Canon, canonicalise};
 use dataset_index::Dataset;
-use ndegree_hash::{Stop, Tie};
+use ndegree_hash::Tie;
 use rdf_terms::{Bytes, NoMemory};
 use std::alloc::Global;
 
@@ -59,19 +59,32 @@ fn text_of(alloc: Global, task: Task, dataset: &Dataset, canon: Canon) -> Result
     })
 }
 
-// What the task writes for a dataset.
+// The canonical run of a dataset, or how the run stops.
+pub(crate) fn canonical_run(
+    alloc: Global,
+    settings: Settings,
+    dataset: &Dataset,
+) -> Result<Canon, Status>
+    ensures run { IfOk result (IsCanonWithin settings (dataset_of dataset.now)) }
+    ensures profile { IfOk result (λ canon. canon.profile ≡ settings.profile) }
+    ensures stops { IfErr result (IsRunStop settings dataset.now) }
+{
+    match canonicalise(alloc, dataset, settings.limit, settings.profile) {
+        Ok(canon) => Ok(canon),
+        Err(stop) => Err(status_of_run(stop, settings.limit)),
+    }
+}
+
+// What the task writes for a dataset, or how the run stops.
 pub(crate) fn task_output(
     alloc: Global,
     task: Task,
     settings: Settings,
     dataset: &Dataset,
-) -> Result<Output, Stop>
+) -> Result<Output, Status>
     ensures output { IfOk result (IsTaskOutput task settings dataset.now) }
-    ensures over { result ≡ Err Stop.WorkLimit → PassesLimit (hashing_of settings) (dataset_of dataset.now) settings.limit }
+    ensures stops { IfErr result (IsRunStop settings dataset.now) }
 {
-    let canon = canonicalise(alloc, dataset, settings.limit, settings.profile)?;
-    match text_of(alloc, task, dataset, canon) {
-        Ok(output) => Ok(output),
-        Err(NoMemory) => Err(Stop::NoMemory),
-    }
+    let canon = canonical_run(alloc, settings, dataset)?;
+    Ok(text_of(alloc, task, dataset, canon)?)
 }

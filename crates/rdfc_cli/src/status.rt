@@ -11,10 +11,14 @@ pub enum Status {
     Done,
     /// The two datasets are not isomorphic (RDF 1.1 Concepts, section 4.1).
     Different,
+    /// Each tie is joined, so that the standard allows no other output.
+    NoOther,
     Usage,
     /// The whole text was written, and this is the first tie that no symmetry joins: the standard may allow another
     /// text (RDF Dataset Canonicalization, section 4.4).
     Unsettled(Tie),
+    /// This is the first tie that no symmetry joins, and the run with the nodes numbered along it gave the same output.
+    NotFound(Tie),
     Refused(Refusal),
     ReadFault { file: u8 },
     WriteFault,
@@ -57,8 +61,10 @@ impl Status {
         match self {
             Status::Done => 0,
             Status::Different => 1,
+            Status::NoOther => 1,
             Status::Usage => 2,
             Status::Unsettled(_) => 3,
+            Status::NotFound(_) => 3,
             Status::Refused(_) => 4,
             Status::ReadFault { .. } => 5,
             Status::WriteFault => 6,

@@ -1,16 +1,16 @@
 //! The words of the command line.
 ghost use Rattle.std.specs.Prelude.{◌≡◌, ◌↔◌, ℕ, map, string_bytes, codes, IsTrue, IfSome, IfNone};
 ghost use Rattle.rdf_terms.specs.Lists.{Text};
-ghost use Rattle.rdfc_cli.specs.Words.{Command as SpelledCommand, task_word, IsFileWord, IsNoCommand, file_word};
-ghost use Rattle.rdfc_cli.specs.Words.Command.{on_file, compare as compare_files, lean as lean_file, load as load_number};
+ghost use Rattle.rdfc_cli.specs.Words.{Command as SpelledCommand, IsFileWord, IsNoCommand, file_word};
+ghost use Rattle.rdfc_cli.specs.Words.Command.{compare as compare_files, load as load_number};
 ghost use Rattle.rdfc_cli.specs.Options.{AreTaken, chosen};
-ghost use Rattle.rdfc_cli.specs.Requests.{command_of, IsRequest, IsSpelled};
-ghost use Rattle.rdfc_cli.specs.declared.words.Task.{Task};
+ghost use Rattle.rdfc_cli.specs.Requests.{command_of, command_on, work_word, IsRequest, IsSpelled};
+ghost use Rattle.rdfc_cli.specs.declared.words.Work.{Work};
 
 use crate::options::{Options, Reading, Settings, Syntax, number_within, read_options};
 use load_document::{GREATEST_NUMBER, LEAST_NUMBER};
 
-/// What is to be done with a file.
+/// What is written of the canonical run of a file.
 #[derive(Clone, Copy, Debug, PartialEq, Eq)]
 pub enum Task {
     /// Write its canonical form.
@@ -23,14 +23,23 @@ pub enum Task {
     Ties,
 }
 
+/// What is done with the dataset of a file.
+#[derive(Clone, Copy, Debug, PartialEq, Eq)]
+pub enum Work {
+    /// Canonicalize it.
+    Run(Task),
+    /// Write a lean image of its graph, or the map onto it.
+    Lean,
+    /// Write another output that the standard allows for it.
+    Other,
+}
+
 /// A command with its operands.
 #[derive(Clone, Copy, Debug, PartialEq, Eq)]
 pub enum Command<'a> {
-    OnFile { task: Task, file: &'a str },
+    OnFile { work: Work, file: &'a str },
     /// Write the map of the nodes of the first file to those of the second, where the two are isomorphic.
     Compare { first: &'a str, second: &'a str },
-    /// Write a lean image of its graph, or the map onto it.
-    Lean { file: &'a str },
     /// Write what is counted of the document that is made from a number, and the hash of its canonical form.
     Load { number: u32 },
 }
@@ -44,6 +53,19 @@ pub struct Request<'a> {
     pub syntax: Syntax<'a>,
 }
 
+impl Work {
+    // Whether it takes each option that was read.
+    fn takes(self, options: &Options<'_>) -> bool
+        ensures { (file : Text) → IsTrue result ↔ AreTaken (command_on self file) (chosen options.now) }
+    {
+        match self {
+            Work::Run(_) => options.leave_the_map(),
+            Work::Lean => options.leave_the_profile(),
+            Work::Other => options.leave_the_map(),
+        }
+    }
+}
+
 impl<'a> Command<'a> {
     /// What a note calls the file at this place of the command.
     pub fn file_word(&self, place: u8) -> &'a str
@@ -52,7 +74,6 @@ impl<'a> Command<'a> {
         match self {
             Command::OnFile { file, .. } => file,
             Command::Compare { first, second } => { if place == 0 { first } else { second } }
-            Command::Lean { file } => file,
             Command::Load { .. } => "load",
         }
     }
@@ -62,23 +83,24 @@ impl<'a> Command<'a> {
         ensures { IsTrue result ↔ AreTaken (command_of self.now) (chosen options.now) }
     {
         match self {
-            Command::OnFile { .. } => options.leave_the_map(),
+            Command::OnFile { work, .. } => work.takes(options),
             Command::Compare { .. } => options.leave_the_profile() && options.leave_the_map(),
-            Command::Lean { .. } => options.leave_the_profile(),
             Command::Load { .. } => options.leave_the_syntax() && options.leave_the_map(),
         }
     }
 }
 
-fn task_of(word: &str) -> Option<Task>
-    ensures some { IfSome result (λ task. word.now ≡ task_word task) }
-    ensures none { IfNone result ((task : Task) → ¬ (word.now ≡ task_word task)) }
+fn work_of(word: &str) -> Option<Work>
+    ensures some { IfSome result (λ work. word.now ≡ work_word work) }
+    ensures none { IfNone result ((work : Work) → ¬ (word.now ≡ work_word work)) }
 {
     match word {
-        "canon" => Some(Task::Canon),
-        "hash" => Some(Task::Hash),
-        "map" => Some(Task::Map),
-        "ties" => Some(Task::Ties),
+        "canon" => Some(Work::Run(Task::Canon)),
+        "hash" => Some(Work::Run(Task::Hash)),
+        "map" => Some(Work::Run(Task::Map)),
+        "ties" => Some(Work::Run(Task::Ties)),
+        "lean" => Some(Work::Lean),
+        "other" => Some(Work::Other),
         _ => None,
     }
 }
@@ -92,18 +114,18 @@ fn is_file_word(word: &str) -> bool
     }
 }
 
-// The task that this word names, with the one file that the operands name.
-fn read_task<'a>(word: &str, operands: &'a [String]) -> Option<Command<'a>>
+// The work that this word names, with the one file that the operands name.
+fn read_work<'a>(word: &str, operands: &'a [String]) -> Option<Command<'a>>
     ensures some { IfSome result (λ command. IsSpelled word.now (map string_bytes operands.now) (command_of command)) }
-    ensures none { IfNone result ((task : Task) (file : Text) → ¬ (IsSpelled word.now (map string_bytes operands.now) (on_file task file))) }
+    ensures none { IfNone result ((work : Work) (file : Text) → ¬ (IsSpelled word.now (map string_bytes operands.now) (command_on work file))) }
 {
-    let task = task_of(word)?;
+    let work = work_of(word)?;
     let [file] = operands else {
         return None;
     };
     let file = file.as_str();
     if is_file_word(file) {
-        Some(Command::OnFile { task, file })
+        Some(Command::OnFile { work, file })
     } else {
         None
     }
@@ -121,22 +143,6 @@ fn read_comparison(operands: &[String]) -> Option<Command<'_>>
     let second = second.as_str();
     if is_file_word(first) && is_file_word(second) {
         Some(Command::Compare { first, second })
-    } else {
-        None
-    }
-}
-
-// The graph that is to be leaned, in the one file that the operands name.
-fn read_leaning(operands: &[String]) -> Option<Command<'_>>
-    ensures some { IfSome result (λ command. IsSpelled (codes "lean") (map string_bytes operands.now) (command_of command)) }
-    ensures none { IfNone result ((file : Text) → ¬ (IsSpelled (codes "lean") (map string_bytes operands.now) (lean_file file))) }
-{
-    let [file] = operands else {
-        return None;
-    };
-    let file = file.as_str();
-    if is_file_word(file) {
-        Some(Command::Lean { file })
     } else {
         None
     }
@@ -163,9 +169,8 @@ fn read_command<'a>(word: &str, operands: &'a [String]) -> Option<Command<'a>>
 {
     match word {
         "compare" => read_comparison(operands),
-        "lean" => read_leaning(operands),
         "load" => read_load(operands),
-        _ => read_task(word, operands),
+        _ => read_work(word, operands),
     }
 }
 
