@@ -28,7 +28,7 @@ same_past G H image limit p past = record {
     reached : (st : Statement) → IsReached past.μ G st → IsReached past.μ H st
     reached st r = (let f = from_In-map (mapped_triple past.μ) G st r in subst (λ t. In t (map (mapped_triple past.μ) H)) (sym f.2) (In-map (mapped_triple past.μ) H f.0 (In-Permutes f.0 p f.1)))
 
-not_named : (G H : List Statement) → Permutes G H → IsGraph G → ¬ (HasGraphName H)
+pub not_named : (G H : List Statement) → Permutes G H → IsGraph G → ¬ (HasGraphName H)
 not_named G H p graph h =
     (let none = each-from_All (λ st. st.graph_name ≡ None) G h.quad graph (In-Permutes h.quad (Permutes-sym p) h.there) in let both : None ≡ Some h.name = sym none ∙ h.named in cc)
 

@@ -1,6 +1,5 @@
--- What the answer of a run says of `canon`, and of files that are accepted.
+-- What the answer of a run says of `canon`, what a file is read as, and why it is refused.
 use Rattle.std.proofs.Common.{◌≡◌, ℕ, ◌<◌, ◌≤◌, List, length, Option, Some, None, IfSome, ◌⊎◌, inl, inr, refl, sym, ap, ◌∙◌, subst, arith}
-use Rattle.std.specs.Io.KnownBytes.{Appends}
 use Rattle.rdf_terms.proofs.Common.{Text, permutes_trans, Permutes-sym, Permutes-from_equal, Statement}
 use Rattle.rdf_terms.specs.declared.term.Label.{Label}
 use Rattle.nquads_reader.specs.Document.{IsCauseOf as IsLineCauseOf}
@@ -19,15 +18,16 @@ use Rattle.canon_model.specs.QuadOrder.{HaveSameQuads}
 use Rattle.canon_model.specs.Output.{units_of, IsOutputOf}
 use Rattle.canon_model.proofs.QuadOrder.{counted_run_of_quads}
 use Rattle.ndegree_hash.specs.declared.tie.Tie.{Tie}
-use Rattle.rdfc_cli.specs.Answers.{Content, IsDocumentIn, Accepts, FileSeen, IsReaderCause, IsCause, IsRunText, IsWritten, hashing_of}
+use Rattle.rdfc_cli.specs.Answers.{Answers, Content, IsDocumentIn, Accepts, FileSeen, IsReaderCause, IsCause, IsRunText, IsWritten, hashing_of}
 use Rattle.rdfc_cli.specs.Words.{Syntax}
 use Rattle.rdfc_cli.specs.Words.Command.{on_file}
 use Rattle.rdfc_cli.specs.Words.Syntax.{nquads, trig}
 use Rattle.rdfc_cli.specs.declared.files.TheConstants.{FILE_LIMIT}
-use Rattle.rdfc_cli.specs.Headline.{Writes, IsOneOutput, HasUnsettledTie, IsPastUnits, IsAnswered, Headline, IsComplete, CausesExclude}
+use Rattle.rdfc_cli.specs.Headline.{IsOutputFor, Says, Headline, CausesExclude}
 use Rattle.rdfc_cli.specs.declared.options.Settings.{Settings}
 use Rattle.rdfc_cli.specs.declared.words.Task.TheVariants.{Canon}
-use Rattle.rdfc_cli.specs.declared.status.Status.TheVariants.{Done, Different, NoOther, Usage, Unsettled, NotFound, Refused, ReadFault, WriteFault, WorkLimit, NoMemory, Undecided, SearchLimit}
+use Rattle.rdfc_cli.specs.declared.status.Status.{Status}
+use Rattle.rdfc_cli.specs.declared.status.Status.TheVariants.{Done, Unsettled, Refused, ReadFault, WriteFault, WorkLimit, NoMemory, SearchLimit}
 use Rattle.rdfc_cli.specs.declared.status.Cause.{Cause}
 use Rattle.rdfc_cli.specs.declared.status.Cause.TheVariants.{TooLong, NotUtf8, BadLine, RelativeIri, BadTrig, UnknownPrefix, NoBase, TooManyQuads}
 
@@ -46,6 +46,10 @@ same_quads syntax bytes a b x y =
       nodes = y.nodes_are ∙ ap length (sym same.0) ∙ sym x.nodes_are;
       statements = permutes_trans (Permutes-sym x.quads_are) (permutes_trans (Permutes-from_equal same.1) y.quads_are);
     }
+
+-- and so is what the file calls its nodes
+pub same_labels : (syntax : Syntax) (bytes : Text) (a b : Content) → Accepts syntax bytes a → Accepts syntax bytes b → a.labels ≡ b.labels
+same_labels syntax bytes a b x y = (same_documents syntax bytes a.labels b.labels x.stated y.stated x.states.reads y.states.reads).0
 
 pub same_units : (ρ : Hashing) (syntax : Syntax) (bytes : Text) (a b : Content) → Accepts syntax bytes a → Accepts syntax bytes b → units_of ρ b.dataset ≡ units_of ρ a.dataset
 same_units ρ syntax bytes a b x y = ap (λ run. run.trace.units) (counted_run_of_quads ρ a.dataset b.dataset (same_quads syntax bytes a b x y))
@@ -113,7 +117,7 @@ one_reader_cause nquads bytes cause other h k = one_of (IsLineCauseOf bytes) NoM
 one_reader_cause (trig base) bytes cause other h k =
     one_of (IsTriGCauseOf bytes base) NoMemoryToken cause_of_token (same_cause bytes base) cause other (token_fault bytes base cause h) (token_fault bytes base other k)
 
-one_cause : (syntax : Syntax) (bytes : Text) (cause other : Cause) → IsCause syntax bytes cause → IsCause syntax bytes other → cause ≡ other
+pub one_cause : (syntax : Syntax) (bytes : Text) (cause other : Cause) → IsCause syntax bytes cause → IsCause syntax bytes other → cause ≡ other
 one_cause syntax bytes cause other h k = by (by_reader syntax bytes cause h) (by_reader syntax bytes other k)
   where
     by : ((FILE_LIMIT < length bytes) × (cause ≡ TooLong)) ⊎ ((length bytes ≤ FILE_LIMIT) × IsReaderCause syntax bytes cause)
@@ -140,94 +144,72 @@ causes_exclude = record { one = one_cause; none = no_cause_if_accepted }
 
 -- ---- the headline
 
-module _ {K : Type 0} (taken : K → Option Text) (faults : K → ℕ) where
+module _ {K : Type 0} (taken : K → Option Text) (faults : K → ℕ) (file : Text → FileSeen) (word bytes : Text) (settings : Settings) (told : (file word).told ≡ Some bytes) where
   -- the text of `canon`, and what its run found
-  record IsCanonText (syntax : Syntax) (bytes : Text) (settings : Settings) (found : Option Tie) (text : Text) : Type 0 where
+  record IsCanonText (found : Option Tie) (text : Text) : Type 0 where
     content : Content
-    accepts : Accepts syntax bytes content
+    accepts : Accepts (file word).syntax bytes content
     run : IsRunText settings found (λ ρ. IsOutputOf ρ content.dataset) content.dataset text
 
-  canon_text : (syntax : Syntax) (bytes : Text) (settings : Settings) (found : Option Tie) (text word : Text) (file : Text → FileSeen) → (file word).syntax ≡ syntax → (file word).told ≡ Some bytes
-      → IsWritten file (on_file Canon word) settings found text → IsCanonText syntax bytes settings found text
-  canon_text syntax bytes settings found text word file i e w =
+  canon_text : (found : Option Tie) (text : Text) → IsWritten file (on_file Canon word) settings found text → IsCanonText found text
+  canon_text found text w =
       let f = of_told (file word).told bytes (λ bytes. (content : Content) × Accepts (file word).syntax bytes content
-      × IsRunText settings found (λ ρ. IsOutputOf ρ content.dataset) content.dataset text) e w in
-      record { content = f.0; accepts = subst (λ x. Accepts x bytes f.0) i f.1; run = f.2 }
+      × IsRunText settings found (λ ρ. IsOutputOf ρ content.dataset) content.dataset text) told w in
+      record { content = f.0; accepts = f.1; run = f.2 }
 
-  writes : (old new : K) (syntax : Syntax) (bytes : Text) (settings : Settings) (found : Option Tie) (text : Text) → Appends (taken old) (taken new) text
-      → (t : IsCanonText syntax bytes settings found text) → Writes taken faults old new syntax bytes settings t.content.dataset text
-  writes old new syntax bytes settings found text grown t = record {
-    grown = grown;
+  is_output : (found : Option Tie) (text : Text) → (t : IsCanonText found text) → IsOutputFor (file word).syntax bytes settings t.content text
+  is_output found text t = record {
+    accepts = t.accepts;
     allowed = t.run.is_text.allowed;
     tells = t.run.is_text.tells;
-    within = λ other accepts. subst (λ n. n ≤ settings.limit) (sym (same_units (hashing_of settings) syntax bytes t.content other t.accepts accepts)) t.run.within;
+    within = λ other accepts. subst (λ n. n ≤ settings.limit) (sym (same_units (hashing_of settings) (file word).syntax bytes t.content other t.accepts accepts)) t.run.within;
   }
 
-  done : (syntax : Syntax) (bytes : Text) (settings : Settings) (old new : K) → IsAnswered taken faults Canon syntax bytes settings old new Done
-      → IsOneOutput taken faults old new syntax bytes settings
-  done syntax bytes settings old new a =
-      let t = canon_text syntax bytes settings None a.answers.0 a.word a.file a.written_in a.told a.answers.2 in
+  says : (old new : K) (status : Status) → Answers taken faults file (on_file Canon word) settings old new status → Says taken faults (file word) bytes settings old new status
+  says old new Done a =
+      let t = canon_text None a.0 a.2 in
       record {
-        text = a.answers.0;
         content = t.content;
-        accepts = t.accepts;
-        writes = writes old new syntax bytes settings None a.answers.0 a.answers.1 t;
+        text = a.0;
+        grown = a.1;
+        is_output = is_output None a.0 t;
         only = λ E isomorphic other allowed. subst (λ w. other ≡ w) (sym t.run.is_text.chosen) (t.run.finds.only E isomorphic other allowed);
       }
-
-  unsettled : (syntax : Syntax) (bytes : Text) (settings : Settings) (old new : K) (tie : Tie) → IsAnswered taken faults Canon syntax bytes settings old new (Unsettled tie)
-      → HasUnsettledTie taken faults old new syntax bytes settings tie
-  unsettled syntax bytes settings old new tie a =
-      let t = canon_text syntax bytes settings (Some tie) a.answers.0 a.word a.file a.written_in a.told a.answers.2 in
+  says old new (Unsettled tie) a =
+      let t = canon_text (Some tie) a.0 a.2 in
       record {
-        text = a.answers.0;
         content = t.content;
-        accepts = t.accepts;
-        writes = writes old new syntax bytes settings (Some tie) a.answers.0 a.answers.1 t;
+        text = a.0;
+        grown = a.1;
+        is_output = is_output (Some tie) a.0 t;
+        first = t.run.finds.first;
         tied = t.run.finds.tie.tied;
         not_joined = t.run.finds.not_joined;
         not_carried = t.run.finds.not_carried;
       }
-
-  work_limit : (syntax : Syntax) (bytes : Text) (settings : Settings) (old new : K) (place limit : ℕ) → IsAnswered taken faults Canon syntax bytes settings old new (WorkLimit place limit)
-      → IsPastUnits taken faults old new syntax bytes settings limit
-  work_limit syntax bytes settings old new place limit a =
-      let s = a.answers.1 in
-      let f = of_told (a.file a.word).told bytes (λ bytes. (content : Content) × Accepts (a.file a.word).syntax bytes content
-      × (settings.limit < units_of (hashing_of settings) content.dataset)) a.told s.1.1 in
-      let accepted = subst (λ x. Accepts x bytes f.0) a.written_in f.1 in
-      record {
-        untouched = a.answers.0;
-        limit_is = s.0;
-        accepted = f.0;
-        accepts = accepted;
-        passes = λ other accepts. subst (λ n. settings.limit < n) (sym (same_units (hashing_of settings) syntax bytes f.0 other accepted accepts)) f.2;
-      }
-
-  pub headline : Headline taken faults
-  headline = record { done = done; unsettled = unsettled; work_limit = work_limit }
-
-  -- ---- completeness
-
-  pub is_complete : IsComplete taken faults
-  is_complete file task word bytes settings old new Done p a = tt
-  is_complete file task word bytes settings old new Different p a = absurd a.1
-  is_complete file task word bytes settings old new NoOther p a = absurd a.1
-  is_complete file task word bytes settings old new (NotFound tie) p a = absurd a.1
-  is_complete file task word bytes settings old new Usage p a = absurd a.1
-  is_complete file task word bytes settings old new (Unsettled tie) p a = tt
-  is_complete file task word bytes settings old new (Refused refusal) p a = elim a.1 [ inl r ↦ refused_never r.1 | inr r ↦ r.2 ]
-    where
-      refused_never : IfSome (file word).told (λ bytes. IsCause (file word).syntax bytes refusal.cause) → ⊥
-      refused_never r =
-          no_cause_if_accepted (file word).syntax bytes p.content refusal.cause p.accepts (of_told (file word).told bytes (λ bytes. IsCause (file word).syntax bytes refusal.cause) p.told r)
-  is_complete file task word bytes settings old new (ReadFault place) p a = p.no_read_failed a.1.1
-  is_complete file task word bytes settings old new WriteFault p a = p.no_put_failed a.0
-  is_complete file task word bytes settings old new (WorkLimit place limit) p a =
+  says old new WriteFault a =
+      let t = canon_text a.1.1 a.1.0 a.1.3 in
+      (a.0, record { content = t.content; text = a.1.0; cut = a.1.2; is_output = is_output a.1.1 a.1.0 t })
+  says old new (WorkLimit place limit) a =
       let f = of_told (file word).told bytes (λ bytes. (content : Content) × Accepts (file word).syntax bytes content
-      × (settings.limit < units_of (hashing_of settings) content.dataset)) p.told a.1.1.1 in
-      not_both (units_of (hashing_of settings) p.content.dataset) settings.limit (subst (λ n. settings.limit < n)
-      (same_units (hashing_of settings) (file word).syntax bytes p.content f.0 p.accepts f.1) f.2) p.within
-  is_complete file task word bytes settings old new NoMemory p a = tt
-  is_complete file task word bytes settings old new (Undecided s t) p a = absurd a.1
-  is_complete file task word bytes settings old new (SearchLimit limit image) p a = absurd a.1.1
+      × (settings.limit < units_of (hashing_of settings) content.dataset)) told a.1.1.1 in (
+        a.0,
+        a.1.1.0,
+        record {
+          limit_is = a.1.0;
+          content = f.0;
+          accepts = f.1;
+          passes = λ other accepts. subst (λ n. settings.limit < n) (sym (same_units (hashing_of settings) (file word).syntax bytes f.0 other f.1 accepts)) f.2;
+        },
+      )
+  says old new (Refused refusal) a = elim a.1 [
+    | inl r ↦ (a.0, r.0, of_told (file word).told bytes (λ bytes. IsCause (file word).syntax bytes refusal.cause) told r.1)
+    | inr r ↦ absurd r.2
+  ]
+  says old new (ReadFault place) a = (a.0, a.1.0, a.1.1)
+  says old new NoMemory a = a.0
+  says old new (SearchLimit limit image) a = absurd a.1.1
+  says old new status a = absurd a.1
+
+pub headline : {K : Type 0} (taken : K → Option Text) (faults : K → ℕ) → Headline taken faults
+headline taken faults file word bytes settings old new status told a = says taken faults file word bytes settings told old new status a

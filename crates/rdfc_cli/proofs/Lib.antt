@@ -12,6 +12,7 @@ pub mod OtherOutputs
 pub mod Pairing
 pub mod Headlines
 pub mod Leaning
+pub mod SameQuads
 pub mod FineGraphs
 pub mod Alike
 pub mod OtherAnswers

@@ -1,16 +1,19 @@
--- What follows where nothing failed: isomorphic datasets, of which one has no unjoined tie, get their bijection, and a
--- graph gets its lean form.
+-- What follows where nothing failed and the work is within the limit: each command writes its text whole, or tells that
+-- two datasets are not isomorphic, or that it can't tell. Only want of memory comes besides.
 use Rattle.std.specs.Prelude.{◌≡◌, ℕ, ◌⊎◌, List, Option, Some}
 use Rattle.rdf_terms.specs.Vocabulary.{Text, Statement, AreIsomorphic}
 use Rattle.graph_model.specs.Counts.{IsPastSearch}
 use Rattle.graph_model.specs.Graphs.{IsGraph}
 use Rattle.outside.specs.Faults.{Rose}
 use Rattle.canon_model.specs.JoinedTies.{IsSettled}
+use Rattle.load_document.specs.LoadDocument.{load_document}
 use Rattle.rdfc_cli.specs.Answers.{Content, Accepts, FileSeen, Answers, IsWithin, hashing_of}
-use Rattle.rdfc_cli.specs.Words.Command.{compare, lean}
+use Rattle.rdfc_cli.specs.Words.Command.{on_file, compare, lean, load}
+use Rattle.rdfc_cli.specs.Words.Syntax.{nquads}
 use Rattle.rdfc_cli.specs.declared.options.Settings.{Settings}
+use Rattle.rdfc_cli.specs.declared.words.Task.{Task}
 use Rattle.rdfc_cli.specs.declared.status.Status.{Status}
-use Rattle.rdfc_cli.specs.declared.status.Status.TheVariants.{Done, NoMemory}
+use Rattle.rdfc_cli.specs.declared.status.Status.TheVariants.{Done, Different, Unsettled, NoMemory, Undecided}
 
 -- a file that is accepted with this content and a counted run within the limit, with no failed call on it
 pub record IsFine (file : FileSeen) (settings : Settings) (content : Content) : Type 0 where
@@ -19,6 +22,51 @@ pub record IsFine (file : FileSeen) (settings : Settings) (content : Content) : 
   pub accepts : Accepts file.syntax bytes content
   pub within : IsWithin settings content.dataset
   pub no_read_failed : ¬ (Rose file.faults file.faults_now)
+
+-- ---- one run
+
+-- the run was done or unsettled, so its whole text was written, or memory was refused
+abbrev pub IsWhole : Status → Type 0
+IsWhole Done = Unit {0}
+IsWhole (Unsettled tie) = Unit {0}
+IsWhole NoMemory = Unit {0}
+IsWhole status = ⊥
+
+abbrev pub IsComplete : {K : Type 0} → (K → Option Text) → (K → ℕ) → Type 0
+IsComplete {K} taken faults =
+    (file : Text → FileSeen) (task : Task) (word : Text) (settings : Settings) (content : Content) (old new : K)
+    (status : Status) → IsFine (file word) settings content → ¬ (Rose (faults old) (faults new))
+    → Answers taken faults file (on_file task word) settings old new status → IsWhole status
+
+-- no reader refuses the document of a number, so the limit alone is asked for
+abbrev pub LoadsNumbers : {K : Type 0} → (K → Option Text) → (K → ℕ) → Type 0
+LoadsNumbers {K} taken faults =
+    (file : Text → FileSeen) (n : ℕ) (settings : Settings) (old new : K) (status : Status)
+    → ((content : Content) → Accepts nquads (load_document n) content → IsWithin settings content.dataset)
+    → ¬ (Rose (faults old) (faults new)) → Answers taken faults file (load n) settings old new status → IsWhole status
+
+-- ---- two of them
+
+-- two such files
+pub record AreFine (first second : FileSeen) (settings : Settings) : Type 0 where
+  pub content : Content
+  pub other : Content
+  pub fine : IsFine first settings content
+  pub other_fine : IsFine second settings other
+
+-- it was told whether the datasets are isomorphic or that this is not known, or memory was refused
+abbrev pub IsJudged : Status → Type 0
+IsJudged Done = Unit {0}
+IsJudged Different = Unit {0}
+IsJudged (Undecided s t) = Unit {0}
+IsJudged NoMemory = Unit {0}
+IsJudged status = ⊥
+
+abbrev pub JudgesPairs : {K : Type 0} → (K → Option Text) → (K → ℕ) → Type 0
+JudgesPairs {K} taken faults =
+    (file : Text → FileSeen) (first second : Text) (settings : Settings) (old new : K) (status : Status)
+    → AreFine (file first) (file second) settings → ¬ (Rose (faults old) (faults new))
+    → Answers taken faults file (compare first second) settings old new status → IsJudged status
 
 -- two such files, whose datasets are isomorphic (RDF 1.1 Concepts, section 4.1), and of one of them each tie is joined
 pub record AreFineAndAlike (first second : FileSeen) (settings : Settings) : Type 0 where

@@ -1,19 +1,33 @@
 //! What the definitions of the answer of a run imply. Each law is a contract, and the functions do nothing.
 
-ghost use Rattle.rdfc_cli.specs.Completeness.{FindsBijections, LeansGraphs};
-ghost use Rattle.rdfc_cli.specs.Headline.{CausesExclude, Headline, IsComplete};
+ghost use Rattle.rdfc_cli.specs.Completeness.{FindsBijections, IsComplete, JudgesPairs, LeansGraphs, LoadsNumbers};
+ghost use Rattle.rdfc_cli.specs.Headline.{CausesExclude, Headline};
 ghost use Rattle.rdfc_cli.specs.OtherOutputs.{FindsOthers};
 
 use outside::Sink;
 
-/// The headline, of `canon` on a file that is told: what the text that is written tells, for each status.
+/// The headline, of `canon` on a file that is told: for each status what the output has taken, what that text tells, and
+/// why there is none.
 pub fn headline<K: Sink>()
     ensures { Headline K.taken K.faults }
 {}
 
-/// Where a file is accepted, no call failed and the work is within the limit, the whole text is written, unless memory is refused.
+/// Where a file is accepted, no call failed and the work is within the limit, `canon`, `hash`, `map` and `ties` write their
+/// text whole, unless memory is refused.
 pub fn run_is_complete<K: Sink>()
     ensures { IsComplete K.taken K.faults }
+{}
+
+/// Where the work on the document of a number is within the limit and no call on the output failed, `load` writes its
+/// summary whole, unless memory is refused.
+pub fn load_is_complete<K: Sink>()
+    ensures { LoadsNumbers K.taken K.faults }
+{}
+
+/// Where two files are accepted, no call failed and the work is within the limit, `compare` writes a bijection whole, or
+/// answers that there is none or that this is not known, unless memory is refused.
+pub fn comparison_is_judged<K: Sink>()
+    ensures { JudgesPairs K.taken K.faults }
 {}
 
 /// Where two files are accepted, their datasets are isomorphic, each tie of one of them is joined, no call failed and the

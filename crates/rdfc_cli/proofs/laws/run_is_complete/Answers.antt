@@ -1,4 +1,4 @@
-use Rattle.rdfc_cli.proofs.Headlines.{is_complete}
+use Rattle.rdfc_cli.proofs.Alike.{is_complete}
 use Rattle.rdfc_cli.proofs.laws.run_is_complete.Goals as goal
 
 pub returns : goal.returns
