@@ -13,6 +13,12 @@ pub mod Pairing
 pub mod Headlines
 pub mod Leaning
 pub mod SameQuads
+pub mod SameTexts
 pub mod FineGraphs
 pub mod Alike
 pub mod OtherAnswers
+pub mod SameRuns
+pub mod SameTasks
+pub mod SameComparisons
+pub mod SameLeanings
+pub mod Determined

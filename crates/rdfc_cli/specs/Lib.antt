@@ -13,3 +13,4 @@ pub mod Forms
 pub mod Headline
 pub mod Completeness
 pub mod OtherOutputs
+pub mod Determined

@@ -1,6 +1,7 @@
 //! What the definitions of the answer of a run imply. Each law is a contract, and the functions do nothing.
 
 ghost use Rattle.rdfc_cli.specs.Completeness.{FindsBijections, IsComplete, JudgesPairs, LeansGraphs, LoadsNumbers};
+ghost use Rattle.rdfc_cli.specs.Determined.{RunsAgree, SpellOneCommand};
 ghost use Rattle.rdfc_cli.specs.Headline.{CausesExclude, Headline};
 ghost use Rattle.rdfc_cli.specs.OtherOutputs.{FindsOthers};
 
@@ -52,4 +53,20 @@ pub fn other_is_complete<K: Sink>()
 /// Bytes are refused for one cause, and those that are accepted for none.
 pub fn causes_exclude_one_another()
     ensures { CausesExclude }
+{}
+
+/// Two runs of the same words that are told the same bytes of each file end alike, where no call failed and memory was not
+/// refused: with one status, and of `canon`, `hash`, `map`, `ties` and `load` with one text. Of `lean` the one may be done
+/// where the other came to an image past the limit.
+///
+/// The shelf, the output, the notes, the keys and the machine are those of each run. By the clause `answer` of `run` both
+/// runs answer to one command, with one choice of settings and of the syntax: those that the words spell, which are the only
+/// ones by `words_spell_one_command`. Where the words spell none, both end with `Usage` by its clause `usage`.
+pub fn runs_are_determined<K: Sink, L: Sink>()
+    ensures { RunsAgree K.taken K.faults L.taken L.faults }
+{}
+
+/// Words are one command at most, with one list of options.
+pub fn words_spell_one_command()
+    ensures { SpellOneCommand }
 {}
