@@ -1,0 +1,12 @@
+pub mod Ends
+pub mod Gluing
+pub mod Renumbering
+pub mod Landing
+pub mod Returning
+pub mod Walked
+pub mod Partial
+pub mod Meaning
+pub mod Grounding
+pub mod Writing
+pub mod Mapping
+pub mod Leaving
