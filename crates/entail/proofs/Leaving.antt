@@ -39,7 +39,8 @@ module _ (E G : List Statement) (terms : List Term) (limit : ℕ) where
             let c = into.count in
             ap (map_of walk found) (sym p.2) ∙ (map_of-at walk found p.0 once (omega arith) (let a = p.1 in omega arith) ∙ (sym (written.here p.0 p.1) ∙ ap (λ x. get_or after x 0) p.2))
 
-    pub walk_searched : (ending : Ending) (searched : Searched) → MeansInto E G terms walk limit ending → IsKept walk ending before after searched → IsWalkSearched E G terms walk limit before after searched
+    pub walk_searched : (ending : Ending) (searched : Searched) → MeansInto E G terms walk limit ending → IsKept walk ending before after searched
+        → IsWalkSearched E G terms walk limit before after searched
     walk_searched (Found found) searched means kept = subst (IsWalkSearched E G terms walk limit before after) (sym kept.0) (mapped found.items means kept.1)
     walk_searched Nothing searched means kept = subst (IsWalkSearched E G terms walk limit before after) (sym kept.0) means
     walk_searched PastLimit searched means kept = subst (IsWalkSearched E G terms walk limit before after) (sym kept.0) (kept.1, means)
@@ -56,7 +57,8 @@ module _ (E G : List Statement) (terms : List Term) (limit : ℕ) where
   searched_same xs ys before after Unmapped same n s = λ μ maps. s μ (λ st t. maps st (t.0, record { node = t.1.node; there = (same t.1.node).0 t.1.there; mentioned = t.1.mentioned }))
   searched_same xs ys before after Stopped same n s = absurd (n refl)
 
-pub found_count : (E G : List Statement) (terms : List Term) (walk : List ℕ) (limit : ℕ) (ending : Ending) → MeansInto E G terms walk limit ending → IfFound ending (λ found. length found ≡ length walk)
+pub found_count : (E G : List Statement) (terms : List Term) (walk : List ℕ) (limit : ℕ) (ending : Ending) → MeansInto E G terms walk limit ending
+    → IfFound ending (λ found. length found ≡ length walk)
 found_count E G terms walk limit (Found found) means = means.count
 found_count E G terms walk limit Nothing means = tt
 found_count E G terms walk limit PastLimit means = tt

@@ -96,7 +96,8 @@ module _ (E G : List Statement) (terms : List Term) where
         least : (n : ℕ) → In n walk → (n < start) ⊎ (start ≤ n) → start ≤ n
         least n i (inr l) = l
         least n i (inl l) =
-            absurd (none (walk_began_where E (IsImaged terms before) (λ st there x y a b h. mapped.closed st x y there a b h) start walk w n i (mapped.behind n (within n (walk_used E start walk w n i)) l)))
+            absurd (none (walk_began_where E (IsImaged terms before) (λ st there x y a b h. mapped.closed st x y there a b h) start walk w n i
+            (mapped.behind n (within n (walk_used E start walk w n i)) l)))
 
   pub mapping_passed : (images : List ℕ) (start : ℕ) → AreMapped E G terms images start → IsImaged terms images start → AreMapped E G terms images (start + 1)
   mapping_passed images start mapped h = record {

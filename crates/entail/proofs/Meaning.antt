@@ -103,7 +103,8 @@ module _ (e g : Document) (index : IndexView) (to : List ℕ) (one : IsOneGraph 
             (map_is_node_map crossed_quads g.quads nodes R (length g.terms) (meets_in g.quads) search xs.items s.is_map c));
       }
   means Nothing h = λ μ maps.
-      let m = maps_are_found e.terms g.terms to e.quads g.quads walk μ (is_crossing e g to one other are) other.terms_once other.unnamed (are_own_nodes e g to one other are start walk own w own_are within) maps in
+      let m = maps_are_found e.terms g.terms to e.quads g.quads walk μ (is_crossing e g to one other are) other.terms_once other.unnamed
+      (are_own_nodes e g to one other are start walk own w own_are within) maps in
       (ends Nothing h).none (map m.0 nodes) (record {
         is_map = (maps_of_rows crossed_quads g.quads nodes R (length g.terms) (meets_in g.quads) search).0 m.0 m.1;
         whole = length-map nodes m.0 ∙ sym search.rows_are.count;

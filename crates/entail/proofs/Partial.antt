@@ -59,7 +59,11 @@ module _ (terms others : List Term) (to : List ℕ) (E H : List Quad) (cross : I
     image_within k i = by (each-from_All (IsEndIn H) images k partial.ends i)
       where
         by : IsEndIn H k → k < length others
-        by e = elim e.end [ inl s ↦ subst (λ w. w < length others) (sym s) (cross.others_in_range e.triple e.there).s | inr o ↦ subst (λ w. w < length others) (sym o) (cross.others_in_range e.triple e.there).o ]
+        by e = elim e.end [
+          | inl s ↦ subst (λ w. w < length others) (sym s) (cross.others_in_range e.triple e.there).s
+          | inr o ↦ subst (λ w. w < length others) (sym o)
+              (cross.others_in_range e.triple e.there).o
+        ]
 
     abbrev μ : ℕ → Term
     μ n = term_at others (map_of nodes images (node_number n))
@@ -74,8 +78,13 @@ module _ (terms others : List Term) (to : List ℕ) (E H : List Quad) (cross : I
     among q there only x e i =
         let p = from_In-map node_number walk x i in
         let at : (y : ℕ) → y < length terms → x ≡ f y → term_at terms y ≡ Blank p.0 = λ y l h. own_end terms others to E H cross walk y p.0 l (sym h ∙ p.2) (term_at terms y) refl in
-        let m : mentions p.0 (statement terms q) ≡ true = end_mentioned terms q p.0 (elim e [ inl s ↦ inl (at q.s (cross.in_range q there).s s) | inr o ↦ inr (at q.o (cross.in_range q there).o o) ]) in
-        subst (λ l. In x l) (sym (take-map node_number (length images) walk)) (subst (λ w. In w (map node_number (take (length images) walk))) (sym p.2) (In-map node_number (take (length images) walk) p.0 (only p.0 m)))
+        let m : mentions p.0 (statement terms q) ≡ true = end_mentioned terms q p.0 (elim e [
+          | inl s ↦ inl (at q.s (cross.in_range q there).s s)
+          | inr o ↦ inr
+              (at q.o (cross.in_range q there).o o)
+        ]) in
+        subst (λ l. In x l) (sym (take-map node_number (length images) walk)) (subst (λ w. In w (map node_number (take (length images) walk))) (sym p.2)
+        (In-map node_number (take (length images) walk) p.0 (only p.0 m)))
 
     same_count : length (map (term_at others) images) ≡ length images
     same_count = length-map images (term_at others)
@@ -105,7 +114,8 @@ module _ (terms others : List Term) (to : List ℕ) (E H : List Quad) (cross : I
     maps = map (map (term_at others)) more.maps;
     distinct = AreDistinct-map (map (term_at others)) more.maps (λ a b i j e. same_numbers others once a b (image_within a (each a i)) (image_within b (each b j)) e) more.distinct;
     are_maps = All-from_each (IsPartialMap (map (statement terms) E) (map (statement others) H) walk) (map (map (term_at others)) more.maps)
-        (λ x i. (let p = from_In-map (map (term_at others)) more.maps x i in subst (IsPartialMap (map (statement terms) E) (map (statement others) H) walk) (sym p.2) (partial_by_terms p.0 (each p.0 p.1))));
+        (λ x i. (let p = from_In-map (map (term_at others)) more.maps x i in subst (IsPartialMap (map (statement terms) E) (map (statement others) H) walk) (sym p.2)
+        (partial_by_terms p.0 (each p.0 p.1))));
     more = (let a = length-map more.maps (map (term_at others)) in let b = more.more in omega arith);
   }
     where

@@ -37,7 +37,8 @@ module _ (terms others : List Term) (to : List ℕ) (E H : List Quad) (cross : I
     goes k x l w (Iri t) e end s = ap m (ap (number_by (length others) (get_or to k 0)) e ∙ found k x l (λ n g. cc) w (s ∙ sym e)) ∙ kept x (omega arith)
     goes k x l w (Literal t) e end s = ap m (ap (number_by (length others) (get_or to k 0)) e ∙ found k x l (λ n g. cc) w (s ∙ sym e)) ∙ kept x (omega arith)
 
-    pub carried_is : (q h : Quad) → In q E → In h H → h.g ≡ None → ((n : ℕ) → (term_at terms q.s ≡ Blank n) ⊎ (term_at terms q.o ≡ Blank n) → In n walk) → statement others h ≡ mapped_triple μ (statement terms q) → carried m (quad_by f q) ≡ h
+    pub carried_is : (q h : Quad) → In q E → In h H → h.g ≡ None → ((n : ℕ) → (term_at terms q.s ≡ Blank n) ⊎ (term_at terms q.o ≡ Blank n) → In n walk)
+        → statement others h ≡ mapped_triple μ (statement terms q) → carried m (quad_by f q) ≡ h
     carried_is q h there here unnamed among e =
         let r : IsInRange terms q = cross.in_range q there in
         let w : IsInRange others h = cross.others_in_range h here in
@@ -98,11 +99,19 @@ module _ (terms others : List Term) (to : List ℕ) (E H : List Quad) (cross : I
   low : (k : ℕ) → k < length others + 1 → ¬ (In k (map node_number walk))
   low k l i = (let p = from_In-map node_number walk k i in let e : k ≡ length others + 1 + p.0 = p.2 in omega arith)
 
-  touched_end : (q : Quad) → In q E → TouchesOneOf (map node_number walk) (quad_by (renumbered terms others to) q) → (n : ℕ) × In n walk × ((term_at terms q.s ≡ Blank n) ⊎ (term_at terms q.o ≡ Blank n))
+  touched_end : (q : Quad) → In q E → TouchesOneOf (map node_number walk) (quad_by (renumbered terms others to) q)
+      → (n : ℕ) × In n walk × ((term_at terms q.s ≡ Blank n) ⊎ (term_at terms q.o ≡ Blank n))
   touched_end q there t =
       let p = from_In-map node_number walk t.node t.there in
-      let r : IsInRange terms q = cross.in_range q there in
-      (p.0, p.1, elim t.end [ inl e ↦ inl (own_end terms others to E H cross walk q.s p.0 r.s (sym e ∙ p.2) (term_at terms q.s) refl) | inr e ↦ inr (own_end terms others to E H cross walk q.o p.0 r.o (sym e ∙ p.2) (term_at terms q.o) refl) ])
+      let r : IsInRange terms q = cross.in_range q there in (
+        p.0,
+        p.1,
+        elim t.end [
+          | inl e ↦ inl (own_end terms others to E H cross walk q.s p.0 r.s (sym e ∙ p.2) (term_at terms q.s) refl)
+          | inr e ↦ inr
+              (own_end terms others to E H cross walk q.o p.0 r.o (sym e ∙ p.2) (term_at terms q.o) refl)
+        ],
+      )
 
   pub is_node_map : IsNodeMap (map (quad_by (renumbered terms others to)) E) H (map node_number walk) numbers
   unfolding numbers
@@ -120,7 +129,8 @@ module _ (terms others : List Term) (to : List ℕ) (E H : List Quad) (cross : I
           (λ k l. else_kept k (decide_in k (map node_number walk)) (low k l)) q h.0 there h.1 (unnamed h.0 h.1) (λ n f. own.closed q there u.0 n u.1 u.2 f) (sym h.2) in
           subst (λ x. In x H) (sym e) h.1
 
-pub maps_are_found : (terms others : List Term) (to : List ℕ) (E H : List Quad) (walk : List ℕ) (μ : ℕ → Term) → IsCrossing terms others to E H → AreDistinct others → ((q : Quad) → In q H → q.g ≡ None)
+pub maps_are_found : (terms others : List Term) (to : List ℕ) (E H : List Quad) (walk : List ℕ) (μ : ℕ → Term) → IsCrossing terms others to E H → AreDistinct others
+    → ((q : Quad) → In q H → q.g ≡ None)
     → AreOwnNodes terms E walk → MapsInto (map (statement terms) E) (map (statement others) H) walk μ
     → (m : ℕ → ℕ) × IsNodeMap (map (quad_by (renumbered terms others to)) E) H (map (λ n. length others + 1 + n) walk) m
 maps_are_found terms others to E H walk μ cross once unnamed own maps = (numbers terms others to E H cross once unnamed walk own μ maps, is_node_map terms others to E H cross once unnamed walk own μ maps)

@@ -76,7 +76,8 @@ module _ (e g : Document) (to : List ℕ) (one : IsOneGraph e) (other : IsOneGra
       used =
           λ n i. (let u = walk_used (statements e) start walk w n i in let p = from_In-map (statement e.terms) e.quads u.statement u.there in
           (p.0, p.1, mentioned_end e.terms p.0 n (one.unnamed p.0 p.1) (ap (λ st. mentions n st) (sym p.2) ∙ u.mentioned)));
-      closed = λ q there n k i a b. walk_closed (statements e) start walk w (statement e.terms q) (In-map (statement e.terms) e.quads q there) n k (end_mentioned e.terms q n a) (end_mentioned e.terms q k b) i;
+      closed = λ q there n k i a b. walk_closed (statements e) start walk w (statement e.terms q) (In-map (statement e.terms) e.quads q there) n k (end_mentioned e.terms q n a)
+          (end_mentioned e.terms q k b) i;
     }
 
     -- a node of the walk has its number among the walk's

@@ -67,12 +67,14 @@ FoundMapsInto = (terms others : List Term) (to : List ℕ) (E H : List Quad) (wa
 pub record AreOwnNodes (terms : List Term) (E : List Quad) (walk : List ℕ) : Type 0 where
   pub used : (n : ℕ) → In n walk
       → (q : Quad) × In q E × ((term_at terms q.s ≡ Blank n) ⊎ (term_at terms q.o ≡ Blank n))
-  pub closed : (q : Quad) → In q E → (n k : ℕ) → In n walk → (term_at terms q.s ≡ Blank n) ⊎ (term_at terms q.o ≡ Blank n)
+  pub closed : (q : Quad) → In q E → (n k : ℕ) → In n walk
+      → (term_at terms q.s ≡ Blank n) ⊎ (term_at terms q.o ≡ Blank n)
       → (term_at terms q.s ≡ Blank k) ⊎ (term_at terms q.o ≡ Blank k) → In k walk
 
 -- a map of the nodes to terms is one by the numbers of the second graph
 abbrev pub MapsAreFound : Type 0
 MapsAreFound = (terms others : List Term) (to : List ℕ) (E H : List Quad) (walk : List ℕ) (μ : ℕ → Term)
-    → IsCrossing terms others to E H → AreDistinct others → ((q : Quad) → In q H → q.g ≡ None) → AreOwnNodes terms E walk
+    → IsCrossing terms others to E H → AreDistinct others → ((q : Quad) → In q H → q.g ≡ None)
+    → AreOwnNodes terms E walk
     → MapsInto (map (statement terms) E) (map (statement others) H) walk μ
     → (m : ℕ → ℕ) × IsNodeMap (map (quad_by (renumbered terms others to)) E) H (map (λ n. length others + 1 + n) walk) m

@@ -64,7 +64,8 @@ pub record IsWalkMapped (E G : List Statement) (terms : List Term) (walk before 
   pub others : (n : ℕ) → (¬ (In n walk)) → slice_index after n ≡ slice_index before n
   pub maps : MapsInto E G walk (map_by terms after)
 
-abbrev pub IsWalkSearched : List Statement → List Statement → List Term → List ℕ → ℕ → List ℕ → List ℕ → Searched → Type 0
+abbrev pub IsWalkSearched : List Statement → List Statement → List Term → List ℕ → ℕ → List ℕ → List ℕ → Searched
+    → Type 0
 IsWalkSearched E G terms walk limit before after Mapped = IsWalkMapped E G terms walk before after
 IsWalkSearched E G terms walk limit before after Unmapped = IsUnmapped E G walk
 IsWalkSearched E G terms walk limit before after Stopped = (after ≡ before) × HasMoreMaps E G walk limit

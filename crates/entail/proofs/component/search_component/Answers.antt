@@ -25,7 +25,8 @@ returns-in-PastLimit-clause-searched c =
     (IsWalkSearched (statements c.args.crossing.now.entailed.now) (statements c.args.crossing.now.graph.now) c.args.crossing.now.graph.now.terms c.as_slice-2.result.now c.args.limit
     c.walk_in-2.new.workspace.images.items c.search_walk.new.workspace.images.items) c.in-PastLimit.is c.in_ok-searched.ensures.searched in
     component_searched (statements c.args.crossing.now.entailed.now) (statements c.args.crossing.now.graph.now) c.args.crossing.now.graph.now.terms c.args.limit c.args.start c.in_ok-walk.walk.items
-    c.args.workspace.now.images.items c.search_walk.new.workspace.images.items c.search_walk-in-PastLimit.new.workspace.images.items c.in_ok-walk.ensures.walk (s.0 ∙ same) c.search_walk-in-PastLimit.result
+    c.args.workspace.now.images.items c.search_walk.new.workspace.images.items c.search_walk-in-PastLimit.new.workspace.images.items c.in_ok-walk.ensures.walk (s.0 ∙ same)
+    c.search_walk-in-PastLimit.result
     (subst (λ ws. IfOk c.search_walk-in-PastLimit.result
     (IsWalkSearched (statements c.args.crossing.now.entailed.now) (statements c.args.crossing.now.graph.now) c.args.crossing.now.graph.now.terms ws c.args.limit
     c.search_walk.new.workspace.images.items c.search_walk-in-PastLimit.new.workspace.images.items)) c.as_slice-in-PastLimit.ensures.value c.search_walk-in-PastLimit.ensures.searched)
@@ -44,9 +45,11 @@ returns c =
       searched = record {
         walk = c.in_ok-walk.walk.items;
         is_walk = c.in_ok-walk.ensures.walk;
-        is_searched = subst (λ xs. IsWalkSearched (statements c.args.crossing.now.entailed.now) (statements c.args.crossing.now.graph.now) c.args.crossing.now.graph.now.terms c.in_ok-walk.walk.items c.args.limit
+        is_searched = subst (λ xs. IsWalkSearched (statements c.args.crossing.now.entailed.now) (statements c.args.crossing.now.graph.now) c.args.crossing.now.graph.now.terms
+            c.in_ok-walk.walk.items c.args.limit
             xs c.search_walk.new.workspace.images.items c.in_ok-searched.searched) same
-            (searched_same (statements c.args.crossing.now.entailed.now) (statements c.args.crossing.now.graph.now) c.args.crossing.now.graph.now.terms c.args.limit c.in_ok-quick.quick.items c.in_ok-walk.walk.items
+            (searched_same (statements c.args.crossing.now.entailed.now) (statements c.args.crossing.now.graph.now) c.args.crossing.now.graph.now.terms c.args.limit c.in_ok-quick.quick.items
+            c.in_ok-walk.walk.items
             c.walk_in-2.new.workspace.images.items c.search_walk.new.workspace.images.items c.in_ok-searched.searched nodes c.in_default.not-PastLimit s);
       };
     }

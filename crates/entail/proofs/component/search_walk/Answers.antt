@@ -44,4 +44,5 @@ returns-clause-searched c =
     c.args.workspace.now.images.items c.keep.new.images.items (walk_closed (statements c.args.crossing.now.entailed.now) c.requires.walk.0 c.args.walk.now c.requires.walk.1)
     (walk_once (statements c.args.crossing.now.entailed.now) c.requires.walk.0 c.args.walk.now c.requires.walk.1)
     (subst (λ n. All (λ x. x < n) c.args.walk.now) (sym c.requires.workspace.count)
-    (walk_within c.args.crossing.now.entailed.now c.requires.crossed.entailed c.requires.walk.0 c.args.walk.now c.requires.walk.1)) c.in_ok-ending.ending c.keep.result c.in_ok-ending.ensures c.keep.ensures.kept
+    (walk_within c.args.crossing.now.entailed.now c.requires.crossed.entailed c.requires.walk.0 c.args.walk.now c.requires.walk.1)) c.in_ok-ending.ending c.keep.result c.in_ok-ending.ensures
+    c.keep.ensures.kept

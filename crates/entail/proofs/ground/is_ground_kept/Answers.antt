@@ -17,7 +17,8 @@ returns-then-not-is_kept c = (
   λ t. absurd (true≢false (sym t)),
   λ kept. absurd (true≢false (sym (c.is_kept.ensures.1
       (λ ground. kept (statement c.args.crossing.now.entailed.now.terms (get_or c.quads-triples.result.now c.loop-triple.triple-index no_quad))
-      (In-map (statement c.args.crossing.now.entailed.now.terms) c.args.crossing.now.entailed.now.quads (get_or c.quads-triples.result.now c.loop-triple.triple-index no_quad) (subst (λ qs. In (get_or c.quads-triples.result.now c.loop-triple.triple-index no_quad) qs) c.quads-triples.ensures.quads
+      (In-map (statement c.args.crossing.now.entailed.now.terms) c.args.crossing.now.entailed.now.quads (get_or c.quads-triples.result.now c.loop-triple.triple-index no_quad)
+      (subst (λ qs. In (get_or c.quads-triples.result.now c.loop-triple.triple-index no_quad) qs) c.quads-triples.ensures.quads
       (In-get_or c.quads-triples.result.now c.loop-triple.triple-index no_quad c.loop-triple-test.true))) ground))
       ∙ c.if-not-is_kept.true)),
 )

@@ -10,7 +10,8 @@ returns-in-Mapped-clause-passed c =
     let s = subst
     (IsComponentSearched (statements c.args.crossing.now.entailed.now) (statements c.args.crossing.now.graph.now) c.args.crossing.now.graph.now.terms c.args.start c.args.limit
     c.args.workspace.now.images.items c.search_component.new.workspace.images.items) c.in-Mapped.is c.in_ok-searched.ensures.searched in
-    mapping_goes_on (statements c.args.crossing.now.entailed.now) (statements c.args.crossing.now.graph.now) c.args.crossing.now.graph.now.terms c.args.workspace.now.images.items c.args.start c.requires.mapped
+    mapping_goes_on (statements c.args.crossing.now.entailed.now) (statements c.args.crossing.now.graph.now) c.args.crossing.now.graph.now.terms c.args.workspace.now.images.items c.args.start
+    c.requires.mapped
     s.walk s.is_walk c.search_component.new.workspace.images.items s.is_searched
 
 pub returns-in-Unmapped-clause-passed : goal.returns-in-Unmapped-clause-passed
@@ -26,7 +27,8 @@ returns-in-PastLimit-clause-stop c =
     (IsComponentSearched (statements c.args.crossing.now.entailed.now) (statements c.args.crossing.now.graph.now) c.args.crossing.now.graph.now.terms c.args.start c.args.limit
     c.args.workspace.now.images.items c.search_component.new.workspace.images.items) c.in-PastLimit.is c.in_ok-searched.ensures.searched in (
       (is_graph c.args.crossing.now.graph.now c.requires.crossed.graph, is_graph c.args.crossing.now.entailed.now c.requires.crossed.entailed),
-      mapping_past (statements c.args.crossing.now.entailed.now) (statements c.args.crossing.now.graph.now) c.args.crossing.now.graph.now.terms c.args.workspace.now.images.items c.args.start c.requires.mapped
+      mapping_past (statements c.args.crossing.now.entailed.now) (statements c.args.crossing.now.graph.now) c.args.crossing.now.graph.now.terms c.args.workspace.now.images.items c.args.start
+          c.requires.mapped
           s.walk s.is_walk
           (λ n u. subst (λ k. n < k) (sym c.requires.workspace.count) (statement_within c.args.crossing.now.entailed.now c.requires.crossed.entailed u.statement u.there n u.mentioned))
           c.requires.unmapped c.args.limit s.is_searched.1,
