@@ -13,6 +13,7 @@ pub record AreLinesOf (text : Text) (lines : List Text) : Type 0 where
   pub are_lines : All IsLine lines
   pub spelled : text ≡ joined lines
 
+-- a text that does not consist of lines has none
 pub record HasLine (text line : Text) : Type 0 where
   pub lines : List Text
   pub are_lines : AreLinesOf text lines
