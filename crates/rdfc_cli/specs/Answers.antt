@@ -260,9 +260,9 @@ Stops file command settings status = ⊥
 -- ---- the answer
 
 module _ {K : Type 0} (taken : K → Option Text) (faults : K → ℕ) where
-  -- With `Done` the whole text was taken, and each tie of the run is joined, but where the text is another output; with `Unsettled` too, but for the tie that
-  -- is carried; with `WriteFault` a proper prefix was taken, where a call on the sink failed.
-  -- With each other status nothing was put, and it has its cause.
+  -- With `Done` the whole text was taken, and each tie of the run is joined, but where the text is another output; with
+  -- `Unsettled` too, but for the tie that is carried; with `WriteFault` a proper prefix was taken, where a call on the
+  -- sink failed. With each other status nothing was put, and it has its cause.
   abbrev pub Answers : (Text → FileSeen) → Command → Settings → K → K → Status → Type 0
   Answers file command settings old new Done =
       (text : Text) × Appends (taken old) (taken new) text × IsWritten file command settings None text
