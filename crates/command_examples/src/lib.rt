@@ -1,4 +1,4 @@
-//! Worked examples of the commands on two files, on numbers and on graphs.
+//! Worked examples of the commands on two files, on numbers, on graphs and on files with more than one output.
 #![tactic(auto)]
 
 #[cfg(test)]
@@ -9,5 +9,7 @@ mod ending;
 mod leaned;
 #[cfg(test)]
 mod loaded;
+#[cfg(test)]
+mod others;
 #[cfg(test)]
 mod small_graphs;

@@ -47,6 +47,7 @@ run_text-of_run settings d IsText canon output run profile text unsettled =
     let c = run.canon_is in
     record {
       within = run.within;
-      finds = subst (λ found. Finds found (hashing_of settings) (dataset d)) (sym unsettled) (finds-first (hashing_of settings) (dataset d) canon.bytes canon.unsettled c.unsettled c.bytes.chosen c.only);
+      finds = subst (λ found. Finds found (hashing_of settings) (dataset d)) (sym unsettled)
+          (finds-first (hashing_of settings) (dataset d) canon.bytes canon.unsettled c.unsettled c.bytes.chosen c.only);
       is_text = subst (λ p. IsText (meaning p) output.text) profile text;
     }

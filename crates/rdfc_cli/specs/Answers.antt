@@ -173,8 +173,8 @@ pub record IsPastAlong (settings : Settings) (D : Dataset) : Type 0 where
 
 -- ---- the whole text of a command
 
--- the text that the command writes, where its run finds this; a comparison and `other` have no tie to tell of where they
--- write, and `lean` has no run
+-- the text that the command writes, where its run finds this; a comparison and `other` have no tie to tell of where
+-- they write, and `lean` has no run
 abbrev pub IsWritten : (Text → FileSeen) → Command → Settings → Option Tie → Text → Type 0
 IsWritten file (on_file task word) settings found text =
     IfAccepted (file word) (λ content. IsRunText settings found
@@ -212,8 +212,8 @@ IsRefused file command place cause =
     IsOfFile file command place (λ seen. IfSome seen.told (λ bytes. IsCause seen.syntax bytes cause))
     ⊎ ((cause ≡ NotOneGraph) × (place ≡ 0) × IsNoGraph file command)
 
--- the first dataset of the command whose counted run passes the limit has this place; with `other` that run is either of
--- the two
+-- the first dataset of the command whose counted run passes the limit has this place; with `other` that run is either
+-- of the two
 abbrev pub IsPastLimit : (Text → FileSeen) → Command → Settings → ℕ → Type 0
 IsPastLimit file (on_file task word) settings place =
     (place ≡ 0) × IfAccepted (file word) (λ content. IsPast settings content.dataset)
@@ -222,7 +222,8 @@ IsPastLimit file (compare first second) settings place =
     ⊎ ((place ≡ 1) × IsWithin settings content.dataset × IsPast settings other.dataset))
 IsPastLimit file (lean word) settings place = ⊥
 IsPastLimit file (other word) settings place =
-    (place ≡ 0) × IfAccepted (file word) (λ content. IsPast settings content.dataset ⊎ IsPastAlong settings content.dataset)
+    (place ≡ 0) × IfAccepted (file word) (λ content. IsPast settings content.dataset
+    ⊎ IsPastAlong settings content.dataset)
 IsPastLimit file (load n) settings place = (place ≡ 0) × IfLoaded n (λ content. IsPast settings content.dataset)
 
 -- the command compares two datasets whose counted runs are within the limit, and this holds of them

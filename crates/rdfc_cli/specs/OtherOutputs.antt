@@ -10,8 +10,8 @@ use Rattle.rdfc_cli.specs.declared.options.Settings.{Settings}
 use Rattle.rdfc_cli.specs.declared.status.Status.{Status}
 use Rattle.rdfc_cli.specs.declared.status.Status.TheVariants.{Done, NoOther, NotFound, NoMemory}
 
--- a file that is accepted, with no failed call on it, whose counted run is within the limit, and the run along its first
--- tie that is not joined too, where there is one
+-- a file that is accepted, with no failed call on it, whose counted run is within the limit, and the run along its
+-- first tie that is not joined too, where there is one
 pub record IsFineTwice (file : FileSeen) (settings : Settings) : Type 0 where
   pub content : Content
   pub fine : IsFine file settings content
