@@ -1,8 +1,8 @@
--- The result of the first start node is the first of its hash.
-use Rattle.std.proofs.Common.{Bool, List, [], ap, append_assoc, arith, cond, false, filter, inl, inr, refl, subst, suc, sym, true, zero, ℕ, ◌++◌, ◌<◌, ◌∙◌, ◌∷◌, ◌≡◌, ◌⊎◌}
-use Rattle.std.proofs.lemmas.Bool.{cases_eq}
+-- Where a result is put among those in order: that of the first start node is the first of its hash.
+use Rattle.std.proofs.Common.{Bool, List, [], ap, append_assoc, arith, cond, false, filter, inl, inr, refl, subst, suc, sym, true, true≢false, zero, ℕ, ◌++◌, ◌<◌, ◌∙◌, ◌∷◌, ◌≡◌, ◌⊎◌}
+use Rattle.std.proofs.lemmas.Bool.{cases_eq, false_from_ne_true}
 use Rattle.std.proofs.lemmas.List.Elements.{filter-append}
-use Rattle.rdf_terms.proofs.Common.{In, from_In-filter, from_In-numbers_below, is_at_most, numbers_below}
+use Rattle.rdf_terms.proofs.Common.{In, from_In-filter, from_In-numbers_below, is_at_most, is_at_most-trans, numbers_below}
 use Rattle.canon_model.specs.Allowed.{HashPathResult}
 use Rattle.canon_model.specs.CountedRun.{insert_result}
 
@@ -44,21 +44,62 @@ filter_two-first p q n k h pk qk below =
 pub record Put (r : HashPathResult) (qs : List HashPathResult) : Type 0 where
   pub lesser : List HashPathResult
   pub others : List HashPathResult
+  pub was : qs ≡ lesser ++ others
   pub is : insert_result r qs ≡ lesser ++ r ∷ others
   pub are_lesser : (q : HashPathResult) → In q lesser → is_at_most r.hash q.hash ≡ false
 
 pub put : (r : HashPathResult) (qs : List HashPathResult) → Put r qs
-put r [] = record { lesser = []; others = []; is = refl; are_lesser = λ q h. absurd h }
+put r [] = record { lesser = []; others = []; was = refl; is = refl; are_lesser = λ q h. absurd h }
 put r (q ∷ qs) = by (is_at_most r.hash q.hash) refl (put r qs)
   where
     by : (t : Bool) → is_at_most r.hash q.hash ≡ t → Put r qs → Put r (q ∷ qs)
-    by true e u = record { lesser = []; others = q ∷ qs; is = ap (λ t. cond t (r ∷ q ∷ qs) (q ∷ insert_result r qs)) e; are_lesser = λ p h. absurd h }
+    by true e u = record { lesser = []; others = q ∷ qs; was = refl; is = ap (λ t. cond t (r ∷ q ∷ qs) (q ∷ insert_result r qs)) e; are_lesser = λ p h. absurd h }
     by false e u = record {
       lesser = q ∷ u.lesser;
       others = u.others;
+      was = ap (λ w. q ∷ w) u.was;
       is = ap (λ t. cond t (r ∷ q ∷ qs) (q ∷ insert_result r qs)) e ∙ ap (λ w. q ∷ w) u.is;
       are_lesser = λ p. elim [
         | inl h ↦ subst (λ (w : HashPathResult). is_at_most r.hash w.hash ≡ false) (sym h) e
         | inr h ↦ u.are_lesser p h
       ];
     }
+
+-- a result, and another of no lesser hash, each put among the same: those between them stand behind the one and before the other
+pub record PutBoth (r s : HashPathResult) (qs : List HashPathResult) : Type 0 where
+  pub lesser : List HashPathResult
+  pub between : List HashPathResult
+  pub others : List HashPathResult
+  pub was : qs ≡ (lesser ++ between) ++ others
+  pub one : insert_result r qs ≡ lesser ++ r ∷ (between ++ others)
+  pub other : insert_result s qs ≡ (lesser ++ between) ++ s ∷ others
+  pub are_lesser : (q : HashPathResult) → In q (lesser ++ between) → is_at_most s.hash q.hash ≡ false
+
+pub put_both : (r s : HashPathResult) → is_at_most r.hash s.hash ≡ true → (qs : List HashPathResult) → PutBoth r s qs
+put_both r s h [] = record { lesser = []; between = []; others = []; was = refl; one = refl; other = refl; are_lesser = λ q i. absurd i }
+put_both r s h (q ∷ qs) = by (is_at_most r.hash q.hash) refl (put s (q ∷ qs)) (put_both r s h qs)
+  where
+    by : (t : Bool) → is_at_most r.hash q.hash ≡ t → Put s (q ∷ qs) → PutBoth r s qs → PutBoth r s (q ∷ qs)
+    by true e p u = record {
+      lesser = [];
+      between = p.lesser;
+      others = p.others;
+      was = p.was;
+      one = ap (λ t. cond t (r ∷ q ∷ qs) (q ∷ insert_result r qs)) e ∙ ap (λ w. r ∷ w) p.was;
+      other = p.is;
+      are_lesser = p.are_lesser;
+    }
+    by false e p u =
+        let above : is_at_most s.hash q.hash ≡ false = false_from_ne_true (is_at_most s.hash q.hash) (λ g. true≢false (sym (is_at_most-trans r.hash s.hash q.hash h g) ∙ e)) in
+        record {
+          lesser = q ∷ u.lesser;
+          between = u.between;
+          others = u.others;
+          was = ap (λ w. q ∷ w) u.was;
+          one = ap (λ t. cond t (r ∷ q ∷ qs) (q ∷ insert_result r qs)) e ∙ ap (λ w. q ∷ w) u.one;
+          other = ap (λ t. cond t (s ∷ q ∷ qs) (q ∷ insert_result s qs)) above ∙ ap (λ w. q ∷ w) u.other;
+          are_lesser = λ p. elim [
+            | inl k ↦ subst (λ (w : HashPathResult). is_at_most s.hash w.hash ≡ false) (sym k) above
+            | inr k ↦ u.are_lesser p k
+          ];
+        }

@@ -7,8 +7,11 @@ mod OneForm
 mod Verdicts
 mod Telling
 mod IssuedFronts
+mod CarriedFronts
 mod EarlierClasses
 mod OtherResultFirst
 mod FirstStart
 mod NumberedClasses
 mod AlongNewResults
+mod SameAdded
+mod EitherWay

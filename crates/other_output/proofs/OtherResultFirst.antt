@@ -1,8 +1,8 @@
 -- The results of a class in another order, in which the right one of two new results is the first of its hash: if a symmetry carries the lists to one another, the two results are joined.
-use Rattle.std.proofs.Common.{List, [], ap, append_assoc, false, inl, inr, length, map, refl, subst, suc, sym, true, true≢false, ℕ, ◌++◌, ◌∙◌, ◌∷◌, ◌≡◌, ◌⊎◌}
+use Rattle.std.proofs.Common.{List, [], ap, append_assoc, false, inl, inr, length, map, refl, subst, sym, true, true≢false, ℕ, ◌++◌, ◌∙◌, ◌∷◌, ◌≡◌, ◌⊎◌}
 use Rattle.std.proofs.lemmas.Bool.{false_from_ne_true}
 use Rattle.std.proofs.lemmas.List.{length-map, map-append}
-use Rattle.rdf_terms.proofs.Common.{In-append, In-append_left, In-append_right, In-map, from_In-map, In-Permutes, Permutes-sym, is_at_most-from_not_before, is_at_most-refl, is_before-irrefl, Dataset, IsValid, Symmetry, In, Text, is_at_most, is_before, map-map}
+use Rattle.rdf_terms.proofs.Common.{In-append, In-append_left, In-append_right, In-map, from_In-map, In-Permutes, Permutes-sym, is_at_most-from_not_before, is_at_most-refl, is_before-irrefl, Dataset, IsValid, Symmetry, In, is_at_most, is_before, map-map}
 use Rattle.canon_model.specs.Allowed.{AreAscending, HashPathResult, IsHashPathList, issue_results, issued_for_unique_hashes, start_of, unissued_nodes}
 use Rattle.canon_model.specs.CountedRun.{counted_results, counted_start, result_of, trace_of_starts}
 use Rattle.canon_model.specs.Coverage.{BeginsWith}
@@ -14,16 +14,14 @@ use Rattle.canon_model.specs.TwoLists.{AreNewResults, MayBeIssuedFirst}
 use Rattle.canon_model.proofs.CanonicalLists.{AreCanonical, issues_for_hashes-canonical, unique_hashes-canonical}
 use Rattle.canon_model.proofs.Components.{IsComponent}
 use Rattle.canon_model.proofs.CountedAllowed.{outcome_of_start}
-use Rattle.canon_model.proofs.Equivariance.{equivariance, map_back, same_test}
+use Rattle.canon_model.proofs.Equivariance.{map_back, same_test}
 use Rattle.canon_model.proofs.ExchangeSymmetry.{append_split, map_same_in}
 use Rattle.canon_model.proofs.IssueEach.{issue_each-new}
 use Rattle.canon_model.proofs.IssuedLists.{issue_results-issued, issue_results-keeps, issue_results-once, issued_issue_results_from}
-use Rattle.canon_model.proofs.Issuers.{AreOnce, In-from_is_issued, Keeps, are_distinct_from_once, begins_trans, is_issued-from_In, map_fixed}
+use Rattle.canon_model.proofs.Issuers.{AreOnce, In-from_is_issued, Keeps, are_distinct_from_once, begins_trans, is_issued-from_In}
 use Rattle.canon_model.proofs.LocalSymmetry.{AreQuads, are_quads}
 use Rattle.canon_model.proofs.Maps.{map_identity}
 use Rattle.canon_model.proofs.NewResults.{new_results_may_be_issued_first}
-use Rattle.canon_model.proofs.OutcomeComponents.{component_of_outcome}
-use Rattle.canon_model.proofs.OutcomesGrow.{n_degree_within-grows}
 use Rattle.canon_model.proofs.RunTies.{from_start}
 use Rattle.canon_model.proofs.Symmetries.{composed_symmetry, inverse_symmetry}
 use Rattle.canon_model.proofs.SortedResults.{sort_results-ascending, sort_results-permutes}
@@ -31,7 +29,8 @@ use Rattle.canon_model.proofs.TieSymmetry.{joined_where_symmetric}
 use Rattle.canon_model.proofs.Totality.{mentions_nodes}
 use Rattle.canon_model.proofs.TwoLists.{issue_results-append}
 use Rattle.canon_model.proofs.Uniqueness.{joined_left, joined_right, unique_up_to_symmetry}
-use Rattle.other_output.proofs.IssuedFronts.{issue_results-begins, same_front, same_length}
+use Rattle.other_output.proofs.CarriedFronts.{begins, component, issuer_is}
+use Rattle.other_output.proofs.IssuedFronts.{issue_results-begins, same_length}
 
 -- what stands behind a result has no lesser hash
 ascending-behind : (ps : List HashPathResult) (r : HashPathResult) (qs : List HashPathResult) → AreAscending (ps ++ r ∷ qs) → (s : HashPathResult) → In s qs
@@ -58,14 +57,11 @@ module _ (ρ : Hashing) (D : Dataset) (valid : IsValid D) (c : List ℕ) (left r
   abbrev starts : List ℕ
   starts = unissued_nodes ρ D c new.class
 
-  component : (x : ℕ) (h : Text) (j : List ℕ) → HashNDegreeQuads ρ D c x (x ∷ []) h j → IsComponent D quads c x j
-  component x h j w = component_of_outcome ρ D (mentions_nodes D valid) quads c x h j w
-
   outcome_at : (x : ℕ) → In x starts → HashNDegreeQuads ρ D c x (x ∷ []) (result_of ρ D c x).hash (result_of ρ D c x).issuer
   outcome_at x i = outcome_of_start ρ D valid c canonical new.class x i
 
   component_at : (x : ℕ) → In x starts → IsComponent D quads c x (result_of ρ D c x).issuer
-  component_at x i = component x (result_of ρ D c x).hash (result_of ρ D c x).issuer (outcome_at x i)
+  component_at x i = component ρ D valid c (result_of ρ D c x) (outcome_at x i)
 
   -- ---- the results of the counted run
 
@@ -88,16 +84,16 @@ module _ (ρ : Hashing) (D : Dataset) (valid : IsValid D) (c : List ℕ) (left r
   left_outcome = subst (λ (v : HashPathResult). HashNDegreeQuads ρ D c v.start (v.start ∷ []) v.hash v.issuer) (sym left_start.1) (outcome_at left.start left_start.0)
 
   left_component : IsComponent D quads c left.start left.issuer
-  left_component = component left.start left.hash left.issuer left_outcome
+  left_component = component ρ D valid c left left_outcome
 
   right_outcome : HashNDegreeQuads ρ D c right.start (right.start ∷ []) right.hash right.issuer
   right_outcome = subst (λ (v : HashPathResult). HashNDegreeQuads ρ D c v.start (v.start ∷ []) v.hash v.issuer) (sym right_start.1) (outcome_at right.start right_start.0)
 
   pub right_component : IsComponent D quads c right.start right.issuer
-  right_component = component right.start right.hash right.issuer right_outcome
+  right_component = component ρ D valid c right right_outcome
 
   pub right_begins : BeginsWith (right.start ∷ []) right.issuer
-  right_begins = (n_degree_within-grows c ρ D (suc D.nodes) right.start (right.start ∷ []) right.hash right.issuer (refl, tt) right_outcome.outcome).0
+  right_begins = begins ρ D valid c right right_outcome
 
   in_run : (x : ℕ) → In x starts → In (result_of ρ D c x) (new.issued ++ left ∷ new.others)
   in_run x i = subst (In (result_of ρ D c x)) new.results_are
@@ -130,7 +126,7 @@ module _ (ρ : Hashing) (D : Dataset) (valid : IsValid D) (c : List ℕ) (left r
     start_in q i = In-Permutes q.start (Permutes-sym list.one_each) (In-map start_of all q i)
 
     component_of : (q : HashPathResult) → In q all → IsComponent D quads c q.start q.issuer
-    component_of q i = component q.start q.hash q.issuer (list.outcomes q i)
+    component_of q i = component ρ D valid c q (list.outcomes q i)
 
     same_hash : (q : HashPathResult) → In q all → q.hash ≡ (result_of ρ D c q.start).hash
     same_hash q i = (unique_up_to_symmetry ρ D c q.start (q.start ∷ []) (joined_start ρ D c starts joined q.start (start_in q i)) q.hash q.issuer (list.outcomes q i)).hash_is
@@ -259,30 +255,8 @@ module _ (ρ : Hashing) (D : Dataset) (valid : IsValid D) (c : List ℕ) (left r
       fixes : Keeps σ.relabelling.to c
       fixes x h = map_same_in to (λ y. y) c (sym c_stays ∙ sym (map_identity (λ y. y) (λ y. refl) c)) x h
 
-      left_begins : BeginsWith (left.start ∷ []) left.issuer
-      left_begins = (n_degree_within-grows c ρ D (suc D.nodes) left.start (left.start ∷ []) left.hash left.issuer (refl, tt) left_outcome.outcome).0
-
-      r_begins : BeginsWith (r.start ∷ []) r.issuer
-      r_begins = (n_degree_within-grows c ρ D (suc D.nodes) r.start (r.start ∷ []) r.hash r.issuer (refl, tt) (list.outcomes r r_there).outcome).0
-
-      start_is : r.start ≡ σ.relabelling.to left.start
-      start_is =
-          let same : Path (List ℕ) (r.start ∷ (r_begins.tail ++ r_front.tail)) (to left.start ∷ (map to left_begins.tail ++ map to left_front.tail)) =
-          ap (λ w. w ++ r_front.tail) (sym r_begins.is) ∙ parts.1 ∙ ap (λ w. map to w ++ map to left_front.tail) left_begins.is in
-          cc
-
-      moved : HashNDegreeQuads ρ D c r.start (r.start ∷ []) left.hash (map σ.relabelling.to left.issuer)
-      moved = subst (λ d. HashNDegreeQuads ρ D d r.start (r.start ∷ []) left.hash (map to left.issuer)) (map_fixed to c fixes)
-          (subst (λ x. HashNDegreeQuads ρ D (map to c) x (x ∷ []) left.hash (map to left.issuer)) (sym start_is)
-          ((equivariance ρ D D σ.relabelling σ.keeps c left.start (left.start ∷ []) left.hash left.issuer).0 left_outcome))
-
       r_is : r.issuer ≡ map σ.relabelling.to left.issuer
-      r_is =
-          let a = component r.start left.hash (map to left.issuer) moved in
-          let b = component_of r r_there in
-          same_front r.issuer (map to left.issuer) r_front.tail (map to left_front.tail) parts.1 (are_distinct_from_once r.issuer b.distinct) (are_distinct_from_once (map to left.issuer) a.distinct)
-          (λ z h. In-from_is_issued z (map to left.issuer) (b.whole (map to left.issuer) a.closed r.start z b.start (is_issued-from_In z r.issuer h) a.start))
-          (λ z h. In-from_is_issued z r.issuer (a.whole r.issuer b.closed r.start z a.start (is_issued-from_In z (map to left.issuer) h) b.start))
+      r_is = issuer_is ρ D valid c σ fixes left r left_outcome (list.outcomes r r_there) (map to left_front.tail) r_front.tail parts.1
 
       pub left_joined : IsJoined D c left.issuer right.issuer
       left_joined =

@@ -5,3 +5,4 @@ pub mod OneForm
 pub mod Openness
 pub mod Answers
 pub mod NewResults
+pub mod TwoOutcomes

@@ -4,6 +4,7 @@ ghost use Rattle.other_output.specs.Answers.{OneOpenness, SettledWhereNone, Told
 ghost use Rattle.other_output.specs.NewResults.{KnownAlongNewResults, OtherFormAlongNewResults};
 ghost use Rattle.other_output.specs.OneForm.{OneFormAlong, OneLimitAlong};
 ghost use Rattle.other_output.specs.SharedOutputs.{OutputsOfIsomorphic};
+ghost use Rattle.other_output.specs.TwoOutcomes.{TwoOutcomesGiveTwoOutputs};
 
 /// An output that is allowed for a dataset is allowed for every isomorphic one.
 pub fn outputs_of_isomorphic()
@@ -45,4 +46,10 @@ pub fn other_form_along_new_results()
 /// So it is not answered then that no other output is known.
 pub fn known_along_new_results()
     ensures { KnownAlongNewResults }
+{}
+
+/// Where a start node has two outcomes that no symmetry carries to one another, and may be issued for with either, two
+/// outputs are allowed that differ.
+pub fn two_outcomes_give_two_outputs()
+    ensures { TwoOutcomesGiveTwoOutputs }
 {}
