@@ -19,7 +19,7 @@ use Rattle.canon_core.specs.Outputs.{HasTwoOutputs}
 use Rattle.ndegree_hash.specs.Log.{tie_of}
 use Rattle.ndegree_hash.specs.declared.tie.Tie.{Tie}
 use Rattle.iso_compare.specs.Comparison.{AreDifferent, AreUndecided}
-use Rattle.other_output.specs.Along.{IsFormAlong, PassesLimitAlong}
+use Rattle.other_output.specs.Along.{IsFormAlong, IsWithinLimitAlong, PassesLimitAlong}
 use Rattle.load_document.specs.LoadDocument.{load_document}
 use Rattle.rdfc_cli.specs.Puts.{IsCutShort}
 use Rattle.rdfc_cli.specs.Leaning.{IsLeaning, HasGraphName, IsPastMaps}
@@ -150,18 +150,21 @@ pub record IsPairing (settings : Settings) (content other : Content) (text : Tex
 
 -- This is the first tie of the counted run that is not joined. The text is the form that is chosen when the nodes are
 -- numbered along it: its canonical list, its right list, then the others. The standard allows it (RDF Dataset
--- Canonicalization, section 4.4), and it is not the form of the counted run: the dataset has two outputs.
+-- Canonicalization, section 4.4), and it is not the form of the counted run: the dataset has two outputs. Both runs are
+-- within the limit.
 pub record IsOtherText (settings : Settings) (D : Dataset) (text : Text) : Type 0 where
   pub within : IsWithin settings D
   pub tie : Tie
   pub unsettled : IsUnsettledBy (hashing_of settings) D tie
+  pub within_along : IsWithinLimitAlong (hashing_of settings) D (tie_of tie) settings.limit
   pub form : IsFormAlong (hashing_of settings) D (tie_of tie) text
   pub differs : ¬ (chosen_form (hashing_of settings) D ≡ text)
   pub two : HasTwoOutputs (hashing_of settings) D
 
--- this is the first tie that is not joined, and the form along it is that of the counted run
-pub record HasSameFormAlong (tie : Tie) (ρ : Hashing) (D : Dataset) : Type 0 where
+-- this is the first tie that is not joined, the run along it is within the limit, and its form is that of the counted run
+pub record HasSameFormAlong (limit : ℕ) (tie : Tie) (ρ : Hashing) (D : Dataset) : Type 0 where
   pub unsettled : IsUnsettledBy ρ D tie
+  pub within_along : IsWithinLimitAlong ρ D (tie_of tie) limit
   pub form : IsFormAlong ρ D (tie_of tie) (chosen_form ρ D)
 
 -- the counted run is within the limit, and the run along its first tie that is not joined passes it
@@ -252,7 +255,7 @@ Stops file command settings (ReadFault place) = IsOfFile file command place (λ 
 Stops file command settings (WorkLimit place limit) = (limit ≡ settings.limit) × IsPastLimit file command settings place
 Stops file command settings Different = AreCompared file command settings AreDifferent
 Stops file command settings NoOther = IsSought file command settings IsDone
-Stops file command settings (NotFound tie) = IsSought file command settings (HasSameFormAlong tie)
+Stops file command settings (NotFound tie) = IsSought file command settings (HasSameFormAlong settings.limit tie)
 Stops file command settings (Undecided s t) = AreCompared file command settings (λ ρ D E. AreUndecided ρ D E s t)
 Stops file command settings (SearchLimit limit image) =
     (limit ≡ settings.limit) × IsPastSearchLimit file command settings image

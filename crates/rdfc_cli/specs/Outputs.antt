@@ -77,7 +77,7 @@ IsOtherEnd settings d (WorkLimit place limit) =
     (place ≡ 0) × (limit ≡ settings.limit) × (IsPast settings (dataset d) ⊎ IsPastAlong settings (dataset d))
 IsOtherEnd settings d NoOther = IsWithin settings (dataset d) × IsDone (hashing_of settings) (dataset d)
 IsOtherEnd settings d (NotFound tie) =
-    IsWithin settings (dataset d) × HasSameFormAlong tie (hashing_of settings) (dataset d)
+    IsWithin settings (dataset d) × HasSameFormAlong settings.limit tie (hashing_of settings) (dataset d)
 IsOtherEnd settings d NoMemory = Unit {0}
 IsOtherEnd settings d status = ⊥
 
