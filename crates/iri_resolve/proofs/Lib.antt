@@ -4,3 +4,6 @@ pub mod Turns
 pub mod Targets
 pub mod Allowed
 pub mod ResolvedSchemes
+pub mod Dotless
+pub mod OpenBases
+pub mod Openings

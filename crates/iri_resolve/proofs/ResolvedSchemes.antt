@@ -25,13 +25,17 @@ HasScheme-append text more h = record {
 not_colon : (c : ℕ) → is_scheme_byte c ≡ true → not (nat_eq c 58) ≡ true
 not_colon c may = ap not (ne_eqb c 58 (λ e. false≢true (subst (λ x. is_scheme_byte x ≡ true) e may)))
 
+-- the first `:` behind a scheme is its own
+pub position-colon : (text : Text) (h : HasScheme text) (rest : Text) → position_or_len (λ c. nat_eq c 58) ((h.letter ∷ h.more) ++ 58 ∷ rest) ≡ length (h.letter ∷ h.more)
+position-colon text h rest =
+    let all : All (λ c. not (nat_eq c 58) ≡ true) (h.letter ∷ h.more) = All-cons (λ c. not (nat_eq c 58) ≡ true) h.letter h.more (not_colon h.letter (may_stand h.letter h.begins))
+    (All-weaker (λ c. is_scheme_byte c ≡ true) (λ c. not (nat_eq c 58) ≡ true) not_colon h.more h.goes_on) in
+    prefix_len-stopped (λ c. not (nat_eq c 58)) (h.letter ∷ h.more) rest 58 all refl
+
 -- the scheme with its `:`
 HasScheme-before_colon : (text : Text) → HasScheme text → HasScheme (before 58 text ++ codes ":")
 HasScheme-before_colon text h =
-    let all : All (λ c. not (nat_eq c 58) ≡ true) (h.letter ∷ h.more) = All-cons (λ c. not (nat_eq c 58) ≡ true) h.letter h.more (not_colon h.letter (may_stand h.letter h.begins))
-    (All-weaker (λ c. is_scheme_byte c ≡ true) (λ c. not (nat_eq c 58) ≡ true) not_colon h.more h.goes_on) in
-    let n : position_or_len (λ c. nat_eq c 58) ((h.letter ∷ h.more) ++ 58 ∷ h.rest) ≡ length (h.letter ∷ h.more) = prefix_len-stopped (λ c. not (nat_eq c 58)) (h.letter ∷ h.more) h.rest 58 all refl in
-    let front : before 58 text ≡ h.letter ∷ h.more = ap (before 58) h.spelled ∙ ap (λ m. take m ((h.letter ∷ h.more) ++ 58 ∷ h.rest)) n
+    let front : before 58 text ≡ h.letter ∷ h.more = ap (before 58) h.spelled ∙ ap (λ m. take m ((h.letter ∷ h.more) ++ 58 ∷ h.rest)) (position-colon text h h.rest)
     ∙ take_at (h.letter ∷ h.more) (58 ∷ h.rest) (length (h.letter ∷ h.more)) refl in
     record { letter = h.letter; more = h.more; rest = []; spelled = ap (λ t. t ++ codes ":") front; begins = h.begins; goes_on = h.goes_on }
 
@@ -52,7 +56,7 @@ target_scheme base reference = by (is_some reference.scheme) (is_some reference.
     by false false true s a e = rw (← target-empty base reference s a e, s) refl
     by false false false s a e = rw (← target-path base reference s a e, s) refl
 
-components_scheme : (text : Text) → (components text).scheme ≡ scheme_of text
+pub components_scheme : (text : Text) → (components text).scheme ≡ scheme_of text
 unfolding components
 components_scheme text = refl
 

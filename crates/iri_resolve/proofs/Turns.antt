@@ -31,7 +31,7 @@ no_last_place text none =
 
 -- ---- what follows the first segment
 
-abbrev EmptyOrSlash : Text → Type 0
+abbrev pub EmptyOrSlash : Text → Type 0
 EmptyOrSlash after = (after ≡ []) ⊎ ((rest : Text) × (after ≡ 47 ∷ rest))
 
 drop_to_slash : (c : ℕ) (cs : Text) → EmptyOrSlash (drop (position_or_len (λ b. nat_eq b 47) cs) cs) → (b : Bool) → nat_eq c 47 ≡ b
@@ -40,7 +40,7 @@ drop_to_slash c cs rest true e = inr (cs, rw (e, eqb-true c 47 e) refl)
 drop_to_slash c cs rest false e =
     let n : 1 + position_or_len (λ b. nat_eq b 47) cs ≡ suc (position_or_len (λ b. nat_eq b 47) cs) = omega arith in rw (e, n) rest
 
-at_slash : (text : Text) → EmptyOrSlash (drop (position_or_len (λ b. nat_eq b 47) text) text)
+pub at_slash : (text : Text) → EmptyOrSlash (drop (position_or_len (λ b. nat_eq b 47) text) text)
 at_slash [] = inl refl
 at_slash (c ∷ cs) = drop_to_slash c cs (at_slash cs) (nat_eq c 47) refl
 

@@ -3,3 +3,4 @@ pub mod Components
 pub mod Parts
 pub mod DotSegments
 pub mod Resolution
+pub mod PlainPaths

@@ -19,7 +19,7 @@ fn after_slash(path: &str) -> &str
 }
 
 // The first segment, with the `/` before it, where there is one, and what follows it.
-fn first_segment(path: &str) -> (&str, &str)
+pub(crate) fn first_segment(path: &str) -> (&str, &str)
     ensures segment { result.0.now ≡ take (first_segment_len path.now) path.now }
     ensures rest { result.1.now ≡ drop (first_segment_len path.now) path.now }
 {

@@ -37,7 +37,7 @@ fn merge(alloc: Global, base: &Parts<'_>, path: &str) -> Result<String, NoMemory
 }
 
 // Whether nothing of the base's path goes into the target's.
-fn has_own_path(reference: &Parts<'_>) -> bool
+pub(crate) fn has_own_path(reference: &Parts<'_>) -> bool
     ensures { result ≡ (is_some reference.now.scheme || (is_some reference.now.authority || begins_with_slash reference.now.path.now)) }
 {
     reference.scheme.is_some() || reference.authority.is_some() || reference.path.starts_with('/')
