@@ -11,6 +11,8 @@ ghost use Rattle.trig_terms.specs.Meaning.Place.{AtPrefixName, AtPrefixIri, AtBa
 ghost use Rattle.trig_terms.specs.Meaning.Pending.{Plain};
 ghost use Rattle.trig_terms.specs.Meaning.Undefined.{NoPrefix, NoBase};
 ghost use Rattle.trig_terms.specs.declared.leaf.Leaf.TheVariants.{Mark as MarkLeaf, Typed as TypedLeaf, Quoted as QuotedLeaf};
+ghost use Rattle.iri_resolve.specs.Resolution.{resolved};
+ghost use Rattle.trig_builder.specs.declared.place.Place.TheVariants.{AtBaseIri as BaseIriPlace};
 ghost use Rattle.trig_builder.specs.Telling.{Drafts};
 ghost use Rattle.trig_builder.specs.Building.{defined, if_set, IsReady, Builds, IsWhole, undefined_of};
 
@@ -18,7 +20,7 @@ use crate::pending::Pending;
 use crate::place::Place;
 use crate::prefixes::Prefixes;
 use crate::telling::Telling;
-use iri_resolve::{has_scheme, resolve};
+use iri_resolve::{Base, has_scheme, resolve};
 use rdf_terms::{Draft, LiteralKindRef, LiteralRef, NoMemory, TermRef, TermText, xsd};
 use std::alloc::Global;
 use std::hash::RandomState;
@@ -42,7 +44,7 @@ pub struct Builder<'a> {
     alloc: Global,
     telling: Telling,
     prefixes: Prefixes,
-    base: Option<TermText>,
+    base: Option<Base>,
     // The prefix that a directive sets.
     setting: Option<SpelledText<'a>>,
     pending: Option<Pending<'a>>,
@@ -70,7 +72,7 @@ impl<'a> Builder<'a> {
         ensures builds { IfOk result (λ b. Builds b (begin (option_copied base.entry))) }
     {
         let base = match base {
-            Some(text) => Some(TermText::copy(alloc, text)?),
+            Some(text) => Some(Base::new(alloc, text)?),
             None => None,
         };
         Ok(Builder {
@@ -130,7 +132,7 @@ impl<'a> Builder<'a> {
         ensures ready { OnOk result (IsReady self.new) }
         ensures builds { OnOk result ((s : State) → Builds self.old s → Builds self.new (meet_iri_in AtBaseIri iri.now s)) }
     {
-        let base = TermText::copy(self.alloc, iri)?;
+        let base = Base::new(self.alloc, iri)?;
         self.telling.turn_to_subject();
         self.base = Some(base);
         Ok(())
@@ -205,8 +207,8 @@ impl<'a> Builder<'a> {
         }
     }
 
-    // An IRIREF without a scheme is met.
-    fn meet_relative(&mut self, reference: &str) -> Result<(), NoMemory>
+    // An IRIREF without a scheme is met, resolved against the base.
+    fn meet_resolved(&mut self, reference: &str) -> Result<(), NoMemory>
         requires ready { IsReady self.old }
         requires reference { All (λ c. is_excluded c ≡ false) reference.now }
         ensures ready { OnOk result (IsReady self.new) }
@@ -218,6 +220,52 @@ impl<'a> Builder<'a> {
                 self.missing = Some(Missing::Base);
                 Ok(())
             }
+        }
+    }
+
+    // A directive sets the base to the reference, resolved against this one, which was taken.
+    fn set_base_below(&mut self, before: Base, reference: &str) -> Result<(), NoMemory>
+        requires ready { IsReady self.old }
+        requires before { IsWhole before }
+        requires reference { All (λ c. is_excluded c ≡ false) reference.now }
+        ensures ready { OnOk result (IsReady self.new) }
+        ensures builds { OnOk result ((s : State) → Builds self.old (record s { base = None }) → Builds self.new (meet_iri_in AtBaseIri (resolved before reference.now) s)) }
+    {
+        let mut base = before;
+        base.turn_to(self.alloc, reference)?;
+        self.telling.turn_to_subject();
+        self.base = Some(base);
+        Ok(())
+    }
+
+    // An IRIREF without a scheme is met in a directive that sets the base.
+    fn move_base(&mut self, reference: &str) -> Result<(), NoMemory>
+        requires ready { IsReady self.old }
+        requires reference { All (λ c. is_excluded c ≡ false) reference.now }
+        requires here { self.old.telling.place ≡ BaseIriPlace }
+        requires taken { self.old.pending ≡ None }
+        ensures ready { OnOk result (IsReady self.new) }
+        ensures builds { OnOk result ((s : State) → Builds self.old s → Builds self.new (meet_iri (resolved_by s.base reference.now) NoBase s)) }
+    {
+        match self.base.take() {
+            Some(base) => self.set_base_below(base, reference),
+            None => {
+                self.missing = Some(Missing::Base);
+                Ok(())
+            }
+        }
+    }
+
+    // An IRIREF without a scheme is met.
+    fn meet_relative(&mut self, reference: &str) -> Result<(), NoMemory>
+        requires ready { IsReady self.old }
+        requires reference { All (λ c. is_excluded c ≡ false) reference.now }
+        ensures ready { OnOk result (IsReady self.new) }
+        ensures builds { OnOk result ((s : State) → Builds self.old s → Builds self.new (meet_iri (resolved_by s.base reference.now) NoBase s)) }
+    {
+        match (self.telling.place(), &self.pending) {
+            (Place::AtBaseIri, None) => self.move_base(reference),
+            _ => self.meet_resolved(reference),
         }
     }
 
