@@ -176,8 +176,8 @@ fn execute<S: Shelf, K: Sink>(
 }
 
 /// Does what the words after the program's name say. The whole text is ready before the first of it is put on `out`.
-/// What happens on `notes` changes no answer, and neither do the keys, which are those of the hashes of all tables that
-/// are looked up by what a file states.
+/// What the clauses fix does not depend on `notes` or the keys (`laws::runs_are_determined`). The keys are those of the
+/// hashes of all tables that are looked up by what a file states.
 pub fn run<S: Shelf, K: Sink, N: Sink>(
     alloc: Global,
     keys: RandomState,
