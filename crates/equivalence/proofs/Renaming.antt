@@ -53,9 +53,10 @@ module _ (L M : List Statement) (a b : ℕ → Term) (graph_L : IsGraph L) (grap
     };
   }
 
-pub lean_images_are_isomorphic : (G H L M : List Statement) (μ ν : ℕ → Term) → IsGraph G → IsGraph H → CarriesInto μ G H → CarriesInto ν H G → IsLeanImage G L → IsLeanImage H M
-    → AreIsomorphicGraphs L M
-lean_images_are_isomorphic G H L M μ ν graph_G graph_H to back l m = (r.f, r.carries)
+-- from the one lean image through the other graph to its lean image
+pub lean_images_rename : (G H L M : List Statement) (μ ν : ℕ → Term) → IsGraph G → IsGraph H → CarriesInto μ G H → CarriesInto ν H G → IsLeanImage G L → (m : IsLeanImage H M)
+    → IsRenaming (composed μ m.μ) L M
+lean_images_rename G H L M μ ν graph_G graph_H to back l m = maps_of_lean_rename L M (composed μ m.μ) (composed ν l.μ) graph_L graph_M l.lean m.lean a b
   where
     within_G : (st : Statement) → In st L → In st G
     within_G = image_lies_within G L l.μ l.shrunk
@@ -75,5 +76,6 @@ lean_images_are_isomorphic G H L M μ ν graph_G graph_H to back l m = (r.f, r.c
     b : CarriesInto (composed ν l.μ) M L
     b = maps_compose ν l.μ M G L (λ st i. back st (within_H st i)) l.shrunk.is_image.carried
 
-    r : IsRenaming (composed μ m.μ) L M
-    r = maps_of_lean_rename L M (composed μ m.μ) (composed ν l.μ) graph_L graph_M l.lean m.lean a b
+pub lean_images_are_isomorphic : (G H L M : List Statement) (μ ν : ℕ → Term) → IsGraph G → IsGraph H → CarriesInto μ G H → CarriesInto ν H G → IsLeanImage G L → IsLeanImage H M
+    → AreIsomorphicGraphs L M
+lean_images_are_isomorphic G H L M μ ν graph_G graph_H to back l m = (let r = lean_images_rename G H L M μ ν graph_G graph_H to back l m in (r.f, r.carries))
