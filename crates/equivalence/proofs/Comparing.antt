@@ -23,7 +23,8 @@ use Rattle.equivalence.proofs.Renaming.{lean_images_rename}
 lean_image : (d : Document) (limit : ℕ) (form : LeanForm) → IsLeanForm d limit form → IsLeanImage (statements d) (triples_of d form.quads)
 lean_image d limit form is = record { μ = map_by d.terms form.map; shrunk = is.shrunk; lean = is.lean }
 
-module _ (g h : Document) (form other : LeanForm) (limit most : ℕ) (is_form : IsLeanForm g limit form) (is_other : IsLeanForm h most other) (images : InstanceMap) (found : IsMapFound h g images) (back : Entails (statements g) (statements h)) where
+module _ (g h : Document) (form other : LeanForm) (limit most : ℕ) (is_form : IsLeanForm g limit form) (is_other : IsLeanForm h most other) (images : InstanceMap)
+    (found : IsMapFound h g images) (back : Entails (statements g) (statements h)) where
   forms_rename : IsRenaming (taken h images.terms other.map) (triples_of g form.quads) (triples_of h other.quads)
   unfolding lean_image
   forms_rename =
