@@ -6,7 +6,7 @@ use Rattle.rdfc_cli.specs.Answers.{FileSeen, Answers}
 use Rattle.rdfc_cli.specs.Words.{Command, Syntax}
 use Rattle.rdfc_cli.specs.declared.options.Settings.{Settings}
 use Rattle.rdfc_cli.specs.declared.status.Status.{Status}
-use Rattle.rdfc_cli.specs.declared.status.Status.TheVariants.{Done, Different, Usage, Unsettled, Refused, ReadFault, WriteFault, WorkLimit, NoMemory, Undecided, SearchLimit}
+use Rattle.rdfc_cli.specs.declared.status.Status.TheVariants.{Done, Different, NoOther, Usage, Unsettled, NotFound, Refused, ReadFault, WriteFault, WorkLimit, NoMemory, Undecided, SearchLimit}
 use Rattle.rdfc_c.specs.declared.delivery.Delivery.{Delivery}
 use Rattle.rdfc_c.specs.Answers.{IsDelivered, lent_file}
 
@@ -15,6 +15,8 @@ pub usage_told : (status : Status) (text before after : Text) (delivery : Delive
 usage_told Done text before after delivery (inl w) e = absurd (omega (arith, w.status, e))
 usage_told Done text before after delivery (inr n) e = absurd (omega (arith, n.status, e))
 usage_told Different text before after delivery u e = absurd (omega (arith, u.status, e))
+usage_told NoOther text before after delivery u e = absurd (omega (arith, u.status, e))
+usage_told (NotFound tie) text before after delivery u e = absurd (omega (arith, u.status, e))
 usage_told Usage text before after delivery u e = refl
 usage_told (Unsettled tie) text before after delivery (inl w) e = absurd (omega (arith, w.status, e))
 usage_told (Unsettled tie) text before after delivery (inr n) e = absurd (omega (arith, n.status, e))
