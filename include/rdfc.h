@@ -26,6 +26,7 @@
  *                 ties first              the units of work, and which nodes are tied
  *                 compare first second    the map of the blank nodes of the one file to those of the other
  *                 lean first              a lean graph of the file
+ *                 other first             another output that the standard allows
  *                 load 1000               a trial on a document that is made
  *             docs/USAGE.md has all commands and options.
  *
@@ -52,16 +53,18 @@
  *     The status, as in answer->status:
  *
  *     RDFC_DONE          The output was written, and is the only one that the standard allows for this dataset.
- *     RDFC_DIFFERENT     compare: the datasets are not isomorphic. Nothing was written.
+ *                        other: another output was written.
+ *     RDFC_DIFFERENT     compare: the datasets are not isomorphic. other: there is no other output. Nothing was written.
  *     RDFC_USAGE         The words are no command. Nothing was written.
  *     RDFC_UNSETTLED     The output was written, but a tie is not settled: another implementation may give another one.
- *                        Do not sign it.
+ *                        Do not sign it. other: none was found, and nothing was written.
  *     RDFC_REFUSED       A file is refused: answer->file, answer->cause and answer->line say which, why and where.
  *     RDFC_READ_FAULT    The words name a file by another word than first and second. answer->file says which.
  *     RDFC_WRITE_FAULT   Memory was refused for the output. Nothing was written.
  *     RDFC_WORK_LIMIT    The work is past the limit of the words, for the file answer->file. Nothing was written.
  *     RDFC_NO_MEMORY     Memory was refused. Nothing was written.
- *     RDFC_UNDECIDED     compare: both datasets have ties that are not settled, and their forms differ.
+ *     RDFC_UNDECIDED     compare: both datasets have ties that are not settled, and their forms differ. Nothing was
+ *                        written.
  *     RDFC_NO_ROOM       The run is done or unsettled, but its output has answer->needed bytes, more than out_len.
  *                        Nothing was written; a call with as much room tells which of the two it is.
  *
@@ -78,7 +81,6 @@
  *     - malloc, realloc and free are one allocator, which aligns a block to each power of two up to 16 that divides its
  *       size.
  *     - The call is not made from a signal handler, or from the forked child of a process with threads.
- *     - The stack has room: 1 MiB suffices for any input.
  */
 #ifndef RDFC_H
 #define RDFC_H

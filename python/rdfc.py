@@ -191,7 +191,7 @@ def _call(words: bytes, first: bytes, second: bytes, room: int) -> tuple[int, by
         if status == _NO_ROOM:
             room = answer.needed
         elif status in (_DONE, _UNSETTLED):
-            return status, out.raw[: answer.written]
+            return status, ctypes.string_at(out, answer.written)
         else:
             raise _fail(answer)
 
