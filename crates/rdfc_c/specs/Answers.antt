@@ -56,7 +56,8 @@ pub record IsUnwritten (code : ℕ) (before after : Text) (delivery : Delivery) 
   pub untouched : after ≡ before
 
 abbrev pub IsFitted : ℕ → Text → Text → Text → Delivery → Type 0
-IsFitted code text before after delivery = IsWritten code text before after delivery ⊎ HasNoRoom text before after delivery
+IsFitted code text before after delivery =
+    IsWritten code text before after delivery ⊎ HasNoRoom text before after delivery
 
 -- what a run that ended so and put this text leaves in memory of the caller
 abbrev pub IsDelivered : Status → Text → Text → Text → Delivery → Type 0
@@ -135,7 +136,8 @@ pub record IsAnswered (files : LentFiles) (command : Command) (options : List Gi
   pub new : GatheringSink
   pub empty : taken_of old ≡ Some []
   pub gathered : taken_of new ≡ Some text
-  pub answers : Answers taken_of refused_of (lent_file (syntax_in options) files failed) command (settings_in options) old new status
+  pub answers : Answers taken_of refused_of (lent_file (syntax_in options) files failed) command
+      (settings_in options) old new status
   pub delivered : IsDelivered status text before after (delivery_of answer)
   pub cause_is : answer.cause ≡ cause_of status
   pub file_is : answer.file ≡ file_of status
