@@ -14,6 +14,7 @@ mod answer;
 mod block;
 mod call;
 mod delivery;
+pub mod laws;
 mod seed;
 
 use std::alloc::Global;
