@@ -12,6 +12,7 @@ pub mod OtherOutputs
 pub mod Pairing
 pub mod Headlines
 pub mod Leaning
+pub mod NumberedAlong
 pub mod SameQuads
 pub mod SameTexts
 pub mod FineGraphs
@@ -21,4 +22,5 @@ pub mod SameRuns
 pub mod SameTasks
 pub mod SameComparisons
 pub mod SameLeanings
+pub mod SameOthers
 pub mod Determined

@@ -1,18 +1,20 @@
 -- Datasets whose lists have the same quads: ties, forms and what is counted of them are the same.
-use Rattle.std.proofs.Common.{◌≡◌, ℕ, zero, suc, ◌<◌, List, [], ◌∷◌, ◌++◌, Option, Some, None, inl, inr, refl, sym, ap, ◌∙◌, subst}
-use Rattle.rdf_terms.proofs.Common.{In, permutes_trans, Dataset, Relabelling, Carries, AreIsomorphic, relabel_statement, joined, canonical_line, issued_names, In-append_right, Permutes-map, Permutes-sym, sorted-Permutes}
+use Rattle.std.proofs.Common.{◌≡◌, ℕ, zero, suc, arith, ◌<◌, ◌≤◌, List, [], ◌∷◌, ◌++◌, Option, Some, None, map, inl, inr, refl, sym, ap, ◌∙◌, subst}
+use Rattle.rdf_terms.proofs.Common.{Text, IsValid, numbers_below, In, permutes_trans, Dataset, Relabelling, Carries, AreIsomorphic, relabel_statement, joined, canonical_line, issued_names, In-append_right, Permutes-map, Permutes-sym, sorted-Permutes}
 use Rattle.rdf_terms.specs.declared.term.Prefix.TheVariants.{Canonical}
 use Rattle.canon_model.specs.CountedRun.{Tie, counted_run}
 use Rattle.canon_model.specs.Hashing.{Hashing}
 use Rattle.canon_model.specs.JoinedTies.{IsSettled, IsJoinedTie, IsFirstUnjoined, JoinedCount, ties_of_run}
 use Rattle.canon_model.specs.Allowed.{canonical_form}
-use Rattle.canon_model.specs.Output.{chosen_form}
+use Rattle.canon_model.specs.Output.{chosen_form, units_of}
 use Rattle.canon_model.specs.QuadOrder.{HaveSameQuads}
 use Rattle.canon_model.specs.Ties.{IsJoined, AreJoined}
 use Rattle.canon_model.proofs.QuadOrder.{counted_run_of_quads}
 use Rattle.canon_core.specs.Canonical.{IsUnsettledBy, IsFirstUnsettled}
 use Rattle.ndegree_hash.specs.Log.{tie_of}
 use Rattle.ndegree_hash.specs.declared.tie.Tie.{Tie as CarriedTie}
+use Rattle.other_output.specs.Along.{IsFormAlong, IsNumberedAlong, IsWithinLimitAlong, PassesLimitAlong, nodes_along}
+use Rattle.rdfc_cli.proofs.NumberedAlong.{numbered_quads}
 use Rattle.rdfc_cli.proofs.OptionWords.{head_same, tail_same}
 
 -- ---- symmetries and ties
@@ -69,6 +71,35 @@ same_ties ρ D E s = ap (λ run. run.trace.ties) (counted_run_of_quads ρ D E s)
 pub same_form : (ρ : Hashing) (D E : Dataset) → HaveSameQuads D E → chosen_form ρ E ≡ chosen_form ρ D
 same_form ρ D E s = ap (λ run. canonical_form E run.value) (counted_run_of_quads ρ D E s)
     ∙ ap joined (sorted-Permutes (Permutes-map (canonical_line (issued_names Canonical (counted_run ρ D).value)) (Permutes-sym s.statements)))
+
+-- ---- numbered along a tie
+
+pub same_along : (D E F : Dataset) (t : Tie) → HaveSameQuads D E → IsNumberedAlong D t F → IsNumberedAlong E t F
+unfolding relabelling_for
+same_along D E F t s a = record {
+  relabelling = relabelling_for D.nodes E.nodes s.nodes a.relabelling;
+  lists = subst (λ n. map a.relabelling.to (nodes_along n t.canonical t.right) ≡ numbers_below n) (sym s.nodes) a.lists;
+  carries = record {
+    nodes = a.carries.nodes ∙ sym s.nodes;
+    statements = permutes_trans (Permutes-map (relabel_statement a.relabelling.to) (Permutes-sym s.statements)) a.carries.statements;
+  };
+}
+
+-- one form, whichever of the two is numbered along one tie
+pub same_form_along : (ρ : Hashing) (D E : Dataset) (s t : Tie) (x y : Text) → IsValid D → HaveSameQuads D E → s ≡ t → IsFormAlong ρ D s x → IsFormAlong ρ E t y → x ≡ y
+same_form_along ρ D E s t x y valid same e f g =
+    let back = same_along E D g.numbered s (have_same_quads-sym D E same) (subst (λ u. IsNumberedAlong E u g.numbered) (sym e) g.along) in
+    f.chosen ∙ sym (same_form ρ f.numbered g.numbered (numbered_quads D f.numbered g.numbered valid (nodes_along D.nodes s.canonical s.right) f.along back)) ∙ sym g.chosen
+
+-- a run along one tie that is within the limit does not pass it
+pub not_past_along : (ρ : Hashing) (D E : Dataset) (s t : Tie) (limit : ℕ) → IsValid D → HaveSameQuads D E → s ≡ t → IsWithinLimitAlong ρ D s limit → ¬ (PassesLimitAlong ρ E t limit)
+not_past_along ρ D E s t limit valid same e w p =
+    let back = same_along E D p.numbered s (have_same_quads-sym D E same) (subst (λ u. IsNumberedAlong E u p.numbered) (sym e) p.along) in
+    let quads = numbered_quads D w.numbered p.numbered valid (nodes_along D.nodes s.canonical s.right) w.along back in
+    let units : units_of ρ p.numbered ≡ units_of ρ w.numbered = ap (λ run. run.trace.units) (counted_run_of_quads ρ w.numbered p.numbered quads) in
+    let within : units_of ρ w.numbered ≤ limit = w.within in
+    let passes : limit < units_of ρ p.numbered = p.passes in
+    omega (arith, units, within, passes)
 
 -- ---- the first tie that is not joined
 

@@ -25,7 +25,7 @@ pub same_refusal : (refusal other : Refusal) → refusal.file ≡ other.file →
 same_refusal refusal other file cause i = record { file = file i; cause = cause i }
 
 -- nothing was taken on either side
-nothing : (before now other_before other_now : Option Text) → Appends before now [] → Appends other_before other_now [] → TakeOneText before now other_before other_now
+pub nothing : (before now other_before other_now : Option Text) → Appends before now [] → Appends other_before other_now [] → TakeOneText before now other_before other_now
 nothing before now other_before other_now a b = record { text = []; grown = a; other_grown = b }
 
 module _ (syntax : Syntax) (bytes : Text) (settings : Settings) (IsText : Hashing → Content → Text → Type 0) where

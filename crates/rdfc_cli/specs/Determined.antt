@@ -7,18 +7,18 @@ use Rattle.outside.specs.Faults.{Rose}
 use Rattle.ndegree_hash.specs.Log.{tie_of}
 use Rattle.rdfc_cli.specs.Answers.{FileSeen, Answers}
 use Rattle.rdfc_cli.specs.Words.{Command, Given, IsCommand}
-use Rattle.rdfc_cli.specs.Words.Command.{on_file, compare, lean, load}
+use Rattle.rdfc_cli.specs.Words.Command.{on_file, compare, lean, other, load}
 use Rattle.rdfc_cli.specs.declared.options.Settings.{Settings}
 use Rattle.rdfc_cli.specs.declared.status.Status.{Status}
-use Rattle.rdfc_cli.specs.declared.status.Status.TheVariants.{Done, Different, Unsettled, Refused, WorkLimit, NoMemory, Undecided, SearchLimit}
+use Rattle.rdfc_cli.specs.declared.status.Status.TheVariants.{Done, Different, NoOther, Unsettled, NotFound, Refused, WorkLimit, NoMemory, Undecided, SearchLimit}
 
 -- ---- the words
 
 -- the words are one command at most, with one list of options
 abbrev pub SpellOneCommand : Type 0
 SpellOneCommand =
-    (words : List Text) (command other : Command) (options others : List Given) → IsCommand words command options
-    → IsCommand words other others → (other ≡ command) × (others ≡ options)
+    (words : List Text) (command second : Command) (options others : List Given) → IsCommand words command options
+    → IsCommand words second others → (second ≡ command) × (others ≡ options)
 
 -- ---- the files
 
@@ -27,6 +27,7 @@ abbrev pub file_words : Command → List Text
 file_words (on_file task file) = file ∷ []
 file_words (compare first second) = first ∷ second ∷ []
 file_words (lean file) = file ∷ []
+file_words (other file) = file ∷ []
 file_words (load n) = []
 
 -- both runs read the file in one syntax and are told the same bytes of it, and no call on it failed
@@ -58,18 +59,20 @@ pub record IsPlainAnswer {K : Type 0} (taken : K → Option Text) (faults : K �
 abbrev pub AreAlike : Status → Status → Type 0
 AreAlike Done Done = Unit {0}
 AreAlike Different Different = Unit {0}
+AreAlike NoOther NoOther = Unit {0}
 AreAlike (Unsettled s) (Unsettled t) = tie_of s ≡ tie_of t
-AreAlike (Refused refusal) (Refused other) = refusal ≡ other
+AreAlike (NotFound s) (NotFound t) = tie_of s ≡ tie_of t
+AreAlike (Refused refusal) (Refused other_refusal) = refusal ≡ other_refusal
 AreAlike (WorkLimit place limit) (WorkLimit other_place other_limit) = (place ≡ other_place) × (limit ≡ other_limit)
 AreAlike (Undecided s t) (Undecided u v) = (tie_of s ≡ tie_of u) × (tie_of t ≡ tie_of v)
 AreAlike (SearchLimit limit image) (SearchLimit other_limit other_image) = limit ≡ other_limit
-AreAlike status other = ⊥
+AreAlike status other_status = ⊥
 
 -- the one is done, where the other came to an image past the limit
 abbrev pub IsLimitOfOne : Status → Status → Type 0
 IsLimitOfOne Done (SearchLimit limit image) = Unit {0}
 IsLimitOfOne (SearchLimit limit image) Done = Unit {0}
-IsLimitOfOne status other = ⊥
+IsLimitOfOne status other_status = ⊥
 
 -- both outputs have taken this one text, and nothing else
 pub record TakeOneText (before now other_before other_now : Option Text) : Type 0 where
@@ -77,22 +80,24 @@ pub record TakeOneText (before now other_before other_now : Option Text) : Type 
   pub grown : Appends before now text
   pub other_grown : Appends other_before other_now text
 
--- The statuses say the same, and of `canon`, `hash`, `map`, `ties` and `load` the outputs have taken one text. Which
--- bijection `compare` writes is not said, and neither is which image `lean` comes to.
+-- The statuses say the same, and of `canon`, `hash`, `map`, `ties`, `other` and `load` the outputs have taken one text.
+-- Which bijection `compare` writes is not said, and neither is which image `lean` comes to.
 abbrev pub Agree : Command → Option Text → Option Text → Option Text → Option Text → Status → Status → Type 0
-Agree (on_file task file) before now other_before other_now status other =
-    AreAlike status other × TakeOneText before now other_before other_now
-Agree (compare first second) before now other_before other_now status other = AreAlike status other
-Agree (lean file) before now other_before other_now status other =
-    AreAlike status other ⊎ IsLimitOfOne status other
-Agree (load n) before now other_before other_now status other =
-    AreAlike status other × TakeOneText before now other_before other_now
+Agree (on_file task file) before now other_before other_now status other_status =
+    AreAlike status other_status × TakeOneText before now other_before other_now
+Agree (compare first second) before now other_before other_now status other_status = AreAlike status other_status
+Agree (lean file) before now other_before other_now status other_status =
+    AreAlike status other_status ⊎ IsLimitOfOne status other_status
+Agree (other file) before now other_before other_now status other_status =
+    AreAlike status other_status × TakeOneText before now other_before other_now
+Agree (load n) before now other_before other_now status other_status =
+    AreAlike status other_status × TakeOneText before now other_before other_now
 
 -- Two runs of one command under one choice of settings, each with a shelf and an output of its own.
 abbrev pub RunsAgree : {K L : Type 0} → (K → Option Text) → (K → ℕ) → (L → Option Text) → (L → ℕ) → Type 0
 RunsAgree {K} {L} taken faults other_taken other_faults =
     (command : Command) (settings : Settings) (file other_file : Text → FileSeen) (old new : K) (before now : L)
-    (status other : Status) → AreToldAlike file other_file command
+    (status other_status : Status) → AreToldAlike file other_file command
     → IsPlainAnswer taken faults file command settings old new status
-    → IsPlainAnswer other_taken other_faults other_file command settings before now other
-    → Agree command (taken old) (taken new) (other_taken before) (other_taken now) status other
+    → IsPlainAnswer other_taken other_faults other_file command settings before now other_status
+    → Agree command (taken old) (taken new) (other_taken before) (other_taken now) status other_status

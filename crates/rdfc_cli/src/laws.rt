@@ -56,8 +56,8 @@ pub fn causes_exclude_one_another()
 {}
 
 /// Two runs of the same words that are told the same bytes of each file end alike, where no call failed and memory was not
-/// refused: with one status, and of `canon`, `hash`, `map`, `ties` and `load` with one text. Of `lean` the one may be done
-/// where the other came to an image past the limit.
+/// refused: with one status, and of `canon`, `hash`, `map`, `ties`, `other` and `load` with one text. Of `lean` the one may
+/// be done where the other came to an image past the limit.
 ///
 /// The shelf, the output, the notes, the keys and the machine are those of each run. By the clause `answer` of `run` both
 /// runs answer to one command, with one choice of settings and of the syntax: those that the words spell, which are the only
