@@ -5,7 +5,7 @@ _rdfc() {
     local command=${COMP_WORDS[1]} options
     COMPREPLY=()
     if [ "$COMP_CWORD" -eq 1 ]; then
-        mapfile -t COMPREPLY < <(compgen -W 'canon hash map ties other compare lean load' -- "$word")
+        mapfile -t COMPREPLY < <(compgen -W 'canon hash map ties other compare entails lean load' -- "$word")
         return
     fi
     case $before in
@@ -23,7 +23,7 @@ _rdfc() {
     esac
     case $command in
     canon | hash | map | ties | other) options='--trig --base --limit --hash --related' ;;
-    compare) options='--trig --base --limit' ;;
+    compare | entails) options='--trig --base --limit' ;;
     lean) options='--trig --base --limit --map' ;;
     load) options='--limit --hash --related' ;;
     *) return ;;

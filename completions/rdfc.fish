@@ -1,6 +1,6 @@
 # Completions of rdfc for fish.
 
-set -l commands canon hash map ties other compare lean load
+set -l commands canon hash map ties other compare entails lean load
 set -l no_command "test (count (commandline -opc)) = 1"
 
 complete -c rdfc -f
@@ -10,10 +10,11 @@ complete -c rdfc -n $no_command -a map -d 'write the canonical identifier of eac
 complete -c rdfc -n $no_command -a ties -d 'write the work of the form, and which blank nodes are tied'
 complete -c rdfc -n $no_command -a other -d 'write another form that the standard allows'
 complete -c rdfc -n $no_command -a compare -d 'write a bijection of the blank nodes of two files'
+complete -c rdfc -n $no_command -a entails -d 'write a map of the blank nodes of a graph into another'
 complete -c rdfc -n $no_command -a lean -d 'write the graph without its redundant part'
 complete -c rdfc -n $no_command -a load -d 'make a large dataset from a number'
 
-set -l on_file __fish_seen_subcommand_from canon hash map ties other compare lean
+set -l on_file __fish_seen_subcommand_from canon hash map ties other compare entails lean
 set -l hashing __fish_seen_subcommand_from canon hash map ties other load
 
 complete -c rdfc -n "$on_file" -F

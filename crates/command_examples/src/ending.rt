@@ -11,6 +11,7 @@ fn file_of(status: &Status) -> Option<u8> {
         Status::Refused(refusal) => Some(refusal.file),
         Status::ReadFault { file } => Some(*file),
         Status::WorkLimit { file, .. } => Some(*file),
+        Status::EntailLimit { file, .. } => Some(*file),
         _ => None,
     }
 }

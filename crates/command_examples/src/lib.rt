@@ -6,6 +6,8 @@ mod compared;
 #[cfg(test)]
 mod ending;
 #[cfg(test)]
+mod entailed;
+#[cfg(test)]
 mod leaned;
 #[cfg(test)]
 mod loaded;

@@ -37,7 +37,7 @@ module _ {K : Type 0} (taken : K → Option Text) (faults : K → ℕ) where
   pub is_complete : IsComplete taken faults
   is_complete file task word settings content old new Done fine none a = tt
   is_complete file task word settings content old new (Unsettled tie) fine none a = tt
-  is_complete file task word settings content old new (Refused refusal) fine none a = elim a.1 [ inl r ↦ not_refused settings (file word) content refusal.cause fine r.1 | inr r ↦ r.2 ]
+  is_complete file task word settings content old new (Refused refusal) fine none a = elim a.1 [ inl r ↦ not_refused settings (file word) content refusal.cause fine r.1 | inr r ↦ r.1 ]
   is_complete file task word settings content old new (ReadFault place) fine none a = fine.no_read_failed a.1.1
   is_complete file task word settings content old new WriteFault fine none a = none a.0
   is_complete file task word settings content old new (WorkLimit place limit) fine none a =
@@ -50,7 +50,7 @@ module _ {K : Type 0} (taken : K → Option Text) (faults : K → ℕ) where
   pub loads_numbers : LoadsNumbers taken faults
   loads_numbers file n settings old new Done within none a = tt
   loads_numbers file n settings old new (Unsettled tie) within none a = tt
-  loads_numbers file n settings old new (Refused refusal) within none a = elim a.1 [ inl r ↦ r | inr r ↦ r.2 ]
+  loads_numbers file n settings old new (Refused refusal) within none a = elim a.1 [ inl r ↦ r | inr r ↦ r.1 ]
   loads_numbers file n settings old new WriteFault within none a = none a.0
   loads_numbers file n settings old new (WorkLimit place limit) within none a = not_both _ settings.limit a.1.1.1.2 (within a.1.1.1.0 a.1.1.1.1)
   loads_numbers file n settings old new NoMemory within none a = tt
@@ -67,7 +67,7 @@ module _ {K : Type 0} (taken : K → Option Text) (faults : K → ℕ) where
   judges_pairs file first second settings old new (Refused refusal) p none a =
       elim a.1 [
         | inl r ↦ elim r [ inl h ↦ not_refused settings (file first) p.content refusal.cause p.fine h.1 | inr h ↦ not_refused settings (file second) p.other refusal.cause p.other_fine h.2 ]
-        | inr r ↦ r.2
+        | inr r ↦ r.1
       ]
   judges_pairs file first second settings old new (ReadFault place) p none a = elim a.1 [ inl h ↦ p.fine.no_read_failed h.1 | inr h ↦ p.other_fine.no_read_failed h.2 ]
   judges_pairs file first second settings old new WriteFault p none a = none a.0

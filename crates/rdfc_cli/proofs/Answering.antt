@@ -6,10 +6,10 @@ use Rattle.load_document.specs.LoadDocument.{load_document}
 use Rattle.rdfc_cli.specs.Answers.{Content, Accepts, FileSeen, IsCause, IfAccepted, AreBothAccepted, IsWritten, Stops, Answers}
 use Rattle.rdfc_cli.specs.FileFaults.{content_of, IsFileFault, IsFaultStatus}
 use Rattle.rdfc_cli.specs.Forms.{IsPairOutput, IsPairStop}
-use Rattle.rdfc_cli.specs.Outputs.{IsSummaryOutput, IsRunStop, IsWorkOutput, IsWorkEnd, Delivers}
+use Rattle.rdfc_cli.specs.Outputs.{IsSummaryOutput, IsRunStop, IsEntailOutput, IsEntailEnd, IsWorkOutput, IsWorkEnd, Delivers}
 use Rattle.rdfc_cli.specs.Requests.{command_on}
 use Rattle.rdfc_cli.specs.Words.{Command, Syntax}
-use Rattle.rdfc_cli.specs.Words.Command.{on_file, compare, lean, other, load}
+use Rattle.rdfc_cli.specs.Words.Command.{on_file, compare, entails, lean, other, load}
 use Rattle.rdfc_cli.specs.Words.Syntax.{nquads}
 use Rattle.rdfc_cli.specs.declared.files.FileFault.{FileFault}
 use Rattle.rdfc_cli.specs.declared.files.FileFault.TheVariants.{Failed, Refused as RefusedFile, NoMemory as NoMemoryForFile}
@@ -19,7 +19,7 @@ use Rattle.rdfc_cli.specs.declared.words.Work.{Work}
 use Rattle.rdfc_cli.specs.declared.words.Work.TheVariants.{Run, Lean, Other}
 use Rattle.rdfc_cli.specs.declared.status.Refusal.{Refusal}
 use Rattle.rdfc_cli.specs.declared.status.Status.{Status}
-use Rattle.rdfc_cli.specs.declared.status.Status.TheVariants.{Done, Different, NoOther, Usage, Unsettled, NotFound, Refused, WriteFault, WorkLimit, NoMemory, Undecided, SearchLimit}
+use Rattle.rdfc_cli.specs.declared.status.Status.TheVariants.{Done, Different, NotEntailed, NoOther, Usage, Unsettled, NotFound, Refused, WriteFault, WorkLimit, NoMemory, Undecided, SearchLimit, EntailLimit}
 
 -- ---- a file that is told is accepted
 
@@ -51,7 +51,7 @@ module _ (file : Text → FileSeen) (word : Text) (settings : Settings) where
     stops-work (Run task) (WorkLimit place limit) s = (s.1, (s.0, read _ s.2))
     stops-work (Run task) NoMemory s = tt
     stops-work (Run task) status s = absurd s
-    stops-work Lean (Refused refusal) s = inr (ap (λ (r : Refusal). r.cause) s.0, ap (λ (r : Refusal). r.file) s.0, read _ s.1)
+    stops-work Lean (Refused refusal) s = inr (ap (λ (r : Refusal). r.cause) s.0, (ap (λ (r : Refusal). r.file) s.0, read _ s.1))
     stops-work Lean NoMemory s = tt
     stops-work Lean (SearchLimit limit image) s = (s.0, read _ s.1)
     stops-work Lean status s = absurd s
@@ -106,6 +106,35 @@ module _ (file : Text → FileSeen) (first second : Text) (settings : Settings) 
     stops-pair NoMemory s = tt
     stops-pair (Undecided t u) s = both _ s
     stops-pair status s = absurd s
+
+-- ---- two graphs
+
+module _ (file : Text → FileSeen) (first second : Text) (settings : Settings) where
+  pub stops-graph_fault : (fault : FileFault) (status : Status) → IsFileFault (file first) fault → IsFaultStatus fault 0 status → Stops file (entails first second) settings status
+  stops-graph_fault Failed status f e = subst (Stops file (entails first second) settings) (sym e) (inl (refl, f))
+  stops-graph_fault (RefusedFile cause) status f e = subst (Stops file (entails first second) settings) (sym e) (inl (inl (refl, f)))
+  stops-graph_fault NoMemoryForFile status f e = subst (Stops file (entails first second) settings) (sym e) tt
+
+  pub stops-entailed_fault : (fault : FileFault) (status : Status) → IfAccepted (file first) (λ content. Unit {0}) → IsFileFault (file second) fault → IsFaultStatus fault 1 status
+      → Stops file (entails first second) settings status
+  stops-entailed_fault Failed status a f e = subst (Stops file (entails first second) settings) (sym e) (inr (refl, a, f))
+  stops-entailed_fault (RefusedFile cause) status a f e = subst (Stops file (entails first second) settings) (sym e) (inl (inr (refl, a, f)))
+  stops-entailed_fault NoMemoryForFile status a f e = subst (Stops file (entails first second) settings) (sym e) tt
+
+  module _ (g e : Document) (accepts : IfSome (file first).told (λ t. Accepts (file first).syntax t (content_of g)))
+      (accepts_entailed : IfSome (file second).told (λ t. Accepts (file second).syntax t (content_of e))) where
+    both_read : (Fact : Content → Content → Type 0) → Fact (content_of g) (content_of e) → AreBothAccepted (file first) (file second) Fact
+    both_read Fact f = record { content = content_of g; other = content_of e; accepts = accepts; accepts_other = accepts_entailed; fact = f }
+
+    pub written-entailment : (output : Output) → IsEntailOutput g e output → IsWritten file (entails first second) settings output.unsettled output.text
+    written-entailment output o = (o.0, both_read _ o.1)
+
+    pub stops-entailment : (status : Status) → IsEntailEnd settings g e status → Stops file (entails first second) settings status
+    stops-entailment NotEntailed s = both_read _ s
+    stops-entailment (Refused refusal) s = inr (s.0, both_read _ s.1)
+    stops-entailment NoMemory s = tt
+    stops-entailment (EntailLimit place limit node) s = both_read _ s
+    stops-entailment status s = absurd s
 
 -- ---- a document that is made
 

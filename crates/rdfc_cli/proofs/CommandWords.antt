@@ -6,7 +6,7 @@ use Rattle.canon_model.specs.declared.profile.HashKind.TheVariants.{Sha256}
 use Rattle.canon_model.specs.declared.profile.Related.TheVariants.{Each}
 use Rattle.trig_builder.specs.Building.{IsWhole as IsBase}
 use Rattle.rdfc_cli.specs.Words.{Command, Given, Syntax, task_word, command_word, operands, option_name, spelled_option, name_word, HasGoodOperands, HasGoodValue, TakesOption, IsCommand, IsNoCommand}
-use Rattle.rdfc_cli.specs.Words.Command.{on_file, compare, lean, other, load}
+use Rattle.rdfc_cli.specs.Words.Command.{on_file, compare, entails, lean, other, load}
 use Rattle.rdfc_cli.specs.Words.Given.{hash, related, as_map, as_trig, base}
 use Rattle.rdfc_cli.specs.Words.Syntax.{nquads, trig}
 use Rattle.rdfc_cli.specs.Options.{Chosen, chosen_by, settings_in, syntax_in, AreTaken, IsNew, HasFittingBase, BeginsNoOption, BeginsWithOptions, AreOptions, AreNoOptions}
@@ -52,6 +52,9 @@ other_task HashTask e = true≢false (ap (λ w. get_or w 0 0 == 104) e)
 other_task Map e = true≢false (ap (λ w. get_or w 0 0 == 109) e)
 other_task Ties e = true≢false (ap (λ w. get_or w 0 0 == 116) e)
 
+compare_no_entails : ¬ (codes "compare" ≡ codes "entails")
+compare_no_entails e = true≢false (ap (λ w. get_or w 0 0 == 99) e)
+
 lean_no_load : ¬ (codes "lean" ≡ codes "load")
 lean_no_load e = true≢false (ap (λ w. get_or w 1 0 == 101) e)
 
@@ -71,6 +74,20 @@ same_command (compare f g) (compare h k) w o =
     let first = head_same f h (g ∷ []) (k ∷ []) o in
     let second = head_same g k [] [] (tail_same f h (g ∷ []) (k ∷ []) o) in
     λ i. compare (first i) (second i)
+same_command (on_file t f) (entails g h) w o = absurd (not_empty h [] (tail_same f g [] (h ∷ []) o))
+same_command (entails f h) (on_file t g) w o = absurd (not_empty h [] (sym (tail_same f g (h ∷ []) [] o)))
+same_command (compare f g) (entails h k) w o = absurd (compare_no_entails w)
+same_command (entails f g) (compare h k) w o = absurd (compare_no_entails (sym w))
+same_command (entails f g) (entails h k) w o =
+    let first = head_same f h (g ∷ []) (k ∷ []) o in
+    let second = head_same g k [] [] (tail_same f h (g ∷ []) (k ∷ []) o) in
+    λ i. entails (first i) (second i)
+same_command (entails f h) (lean g) w o = absurd (not_empty h [] (sym (tail_same f g (h ∷ []) [] o)))
+same_command (lean f) (entails g h) w o = absurd (not_empty h [] (tail_same f g [] (h ∷ []) o))
+same_command (entails f h) (other g) w o = absurd (not_empty h [] (sym (tail_same f g (h ∷ []) [] o)))
+same_command (other f) (entails g h) w o = absurd (not_empty h [] (tail_same f g [] (h ∷ []) o))
+same_command (entails f h) (load n) w o = absurd (not_empty h [] (sym (tail_same f (numeral n) (h ∷ []) [] o)))
+same_command (load n) (entails g h) w o = absurd (not_empty h [] (tail_same (numeral n) g [] (h ∷ []) o))
 same_command (on_file t f) (lean g) w o = absurd (no_task t (codes "lean") refl w)
 same_command (lean f) (on_file t g) w o = absurd (no_task t (codes "lean") refl (sym w))
 same_command (compare f h) (lean g) w o = absurd (not_empty h [] (sym (tail_same f g (h ∷ []) [] o)))
@@ -103,6 +120,8 @@ operands_no_option (on_file t []) good = absurd good
 operands_no_option (on_file t (b ∷ bs)) good = λ name e. good (dash_first name b bs e)
 operands_no_option (compare [] second) good = absurd good.0
 operands_no_option (compare (b ∷ bs) second) good = λ name e. good.0 (dash_first name b bs e)
+operands_no_option (entails [] second) good = absurd good.0
+operands_no_option (entails (b ∷ bs) second) good = λ name e. good.0 (dash_first name b bs e)
 operands_no_option (lean []) good = absurd good
 operands_no_option (lean (b ∷ bs)) good = λ name e. good (dash_first name b bs e)
 operands_no_option (other []) good = absurd good
@@ -126,6 +145,10 @@ takes (compare f s) chosen taken (hash k) = inr taken.0.0
 takes (compare f s) chosen taken (related r) = inr taken.0.1
 takes (compare f s) chosen taken as_map = inr taken.1
 takes (compare f s) chosen taken g = inl tt
+takes (entails f s) chosen taken (hash k) = inr taken.0.0
+takes (entails f s) chosen taken (related r) = inr taken.0.1
+takes (entails f s) chosen taken as_map = inr taken.1
+takes (entails f s) chosen taken g = inl tt
 takes (lean f) chosen taken (hash k) = inr taken.0
 takes (lean f) chosen taken (related r) = inr taken.1
 takes (lean f) chosen taken g = inl tt
@@ -149,6 +172,9 @@ options_taken : (c : Command) (given : List Given) → ((g : Given) → In g giv
 options_taken (on_file t f) given all = new_if_refused (on_file t f) given all as_map (λ t. t)
 options_taken (compare f s) given all =
     let new = new_if_refused (compare f s) given all in
+    ((new (hash Sha256) (λ t. t), new (related Each) (λ t. t)), new as_map (λ t. t))
+options_taken (entails f s) given all =
+    let new = new_if_refused (entails f s) given all in
     ((new (hash Sha256) (λ t. t), new (related Each) (λ t. t)), new as_map (λ t. t))
 options_taken (lean f) given all =
     let new = new_if_refused (lean f) given all in
@@ -196,13 +222,14 @@ word_of_work Other file = refl
 pub not_spelled-work : (word : Text) (behind : List Text) → ((work : Work) → ¬ (word ≡ work_word work)) → (work : Work) (file : Text) → ¬ (IsSpelled word behind (command_on work file))
 not_spelled-work word behind none work file s = none work (s.word_is ∙ word_of_work work file)
 
-pub not_spelled-command : (word : Text) (behind : List Text) → ¬ (word ≡ codes "compare") → ¬ (word ≡ codes "load")
+pub not_spelled-command : (word : Text) (behind : List Text) → ¬ (word ≡ codes "compare") → ¬ (word ≡ codes "entails") → ¬ (word ≡ codes "load")
     → ((work : Work) (file : Text) → ¬ (IsSpelled word behind (command_on work file))) → (c : Command) → ¬ (IsSpelled word behind c)
-not_spelled-command word behind no_compare no_load none (on_file task file) s = none (Run task) file s
-not_spelled-command word behind no_compare no_load none (compare first second) s = no_compare s.word_is
-not_spelled-command word behind no_compare no_load none (lean file) s = none Lean file s
-not_spelled-command word behind no_compare no_load none (other file) s = none Other file s
-not_spelled-command word behind no_compare no_load none (load n) s = no_load s.word_is
+not_spelled-command word behind no_compare no_entails no_load none (on_file task file) s = none (Run task) file s
+not_spelled-command word behind no_compare no_entails no_load none (compare first second) s = no_compare s.word_is
+not_spelled-command word behind no_compare no_entails no_load none (entails first second) s = no_entails s.word_is
+not_spelled-command word behind no_compare no_entails no_load none (lean file) s = none Lean file s
+not_spelled-command word behind no_compare no_entails no_load none (other file) s = none Other file s
+not_spelled-command word behind no_compare no_entails no_load none (load n) s = no_load s.word_is
 
 pub if_none-map : {T P Q : Type 0} (r : Option T) → (P → Q) → IfNone r P → IfNone r Q
 if_none-map None f p = f p

@@ -3,13 +3,14 @@ use Rattle.std.proofs.Common.{ℕ, Option, inl, inr, refl, subst}
 use Rattle.rdf_terms.proofs.Common.{Text}
 use Rattle.load_document.specs.LoadDocument.{load_document}
 use Rattle.rdfc_cli.specs.Determined.{RunsAgree}
-use Rattle.rdfc_cli.specs.Words.Command.{on_file, compare, lean, other, load}
+use Rattle.rdfc_cli.specs.Words.Command.{on_file, compare, entails, lean, other, load}
 use Rattle.rdfc_cli.specs.Words.Syntax.{nquads}
 use Rattle.rdfc_cli.proofs.SameTexts.{same_text, same_summary}
 use Rattle.rdfc_cli.proofs.SameRuns.{Ends, agree}
 use Rattle.rdfc_cli.proofs.SameTasks.{IsTaskText, IsSummaryText, task_ends, load_ends}
 use Rattle.rdfc_cli.proofs.SameComparisons.{EndsComparison, comparisons_agree, comparison_ends}
 use Rattle.rdfc_cli.proofs.SameOthers.{EndsOther, others_agree, other_ends}
+use Rattle.rdfc_cli.proofs.SameEntailments.{EndsEntailment, entailments_agree, entailment_ends}
 use Rattle.rdfc_cli.proofs.SameLeanings.{EndsLeaning, leanings_agree, leaning_ends}
 
 module _ {K L : Type 0} (taken : K → Option Text) (faults : K → ℕ) (other_taken : L → Option Text) (other_faults : L → ℕ) where
@@ -28,6 +29,14 @@ module _ {K L : Type 0} (taken : K → Option Text) (faults : K → ℕ) (other_
       (subst (λ syntax. EndsComparison syntax (file second).syntax t.bytes u.bytes settings other_status) t.syntax_is
       (subst (λ syntax. EndsComparison (other_file first).syntax syntax t.bytes u.bytes settings other_status) u.syntax_is
       (comparison_ends other_taken other_faults other_file first second t.bytes u.bytes settings t.other_told u.other_told t.no_other_failed u.no_other_failed before now other_status y)))
+  runs_agree (entails first second) settings file other_file old new before now status other_status told x y =
+      let t = told first (inl refl) in
+      let u = told second (inr (inl refl)) in
+      entailments_agree (file first).syntax (file second).syntax t.bytes u.bytes settings status other_status
+      (entailment_ends taken faults file first second t.bytes u.bytes settings t.told u.told t.no_read_failed u.no_read_failed old new status x)
+      (subst (λ syntax. EndsEntailment syntax (file second).syntax t.bytes u.bytes settings other_status) t.syntax_is
+      (subst (λ syntax. EndsEntailment (other_file first).syntax syntax t.bytes u.bytes settings other_status) u.syntax_is
+      (entailment_ends other_taken other_faults other_file first second t.bytes u.bytes settings t.other_told u.other_told t.no_other_failed u.no_other_failed before now other_status y)))
   runs_agree (lean word) settings file other_file old new before now status other_status told x y =
       let t = told word (inl refl) in
       leanings_agree (file word).syntax t.bytes settings status other_status (leaning_ends taken faults file word t.bytes settings t.told t.no_read_failed old new status x)

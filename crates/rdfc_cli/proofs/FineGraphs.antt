@@ -38,7 +38,7 @@ module _ {K : Type 0} (taken : K → Option Text) (faults : K → ℕ) where
   pub leans_graphs : LeansGraphs taken faults
   leans_graphs file word settings old new Done p unfailed a = tt
   leans_graphs file word settings old new (Unsettled tie) p unfailed a = absurd (let e = a.2.0 in cc)
-  leans_graphs file word settings old new (Refused refusal) p unfailed a = elim a.1 [ inl r ↦ by_bytes r.1 | inr r ↦ by_name r.2 ]
+  leans_graphs file word settings old new (Refused refusal) p unfailed a = elim a.1 [ inl r ↦ by_bytes r.1 | inr r ↦ by_name r.1.1 ]
     where
       by_bytes : IfSome (file word).told (λ bytes. IsCause (file word).syntax bytes refusal.cause) → ⊥
       by_bytes r =

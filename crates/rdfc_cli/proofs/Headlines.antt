@@ -204,7 +204,7 @@ module _ {K : Type 0} (taken : K → Option Text) (faults : K → ℕ) (file : T
       )
   says old new (Refused refusal) a = elim a.1 [
     | inl r ↦ (a.0, r.0, of_told (file word).told bytes (λ bytes. IsCause (file word).syntax bytes refusal.cause) told r.1)
-    | inr r ↦ absurd r.2
+    | inr r ↦ absurd r.1
   ]
   says old new (ReadFault place) a = (a.0, a.1.0, a.1.1)
   says old new NoMemory a = a.0

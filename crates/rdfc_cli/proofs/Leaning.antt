@@ -52,7 +52,7 @@ one_more_line f n = flat_map_more f [] (numbers_below n) n ∙ ap (λ k. flat_ma
 
 -- ---- why there is none
 
-graph_name_of : (terms : List Term) (g : Option ℕ) → IsSome g → (name : Term) × (graph_name_at terms g ≡ Some name)
+pub graph_name_of : (terms : List Term) (g : Option ℕ) → IsSome g → (name : Term) × (graph_name_at terms g ≡ Some name)
 graph_name_of terms None some = absurd (true≢false (sym some))
 graph_name_of terms (Some n) some = (term_at terms n, refl)
 

@@ -12,6 +12,7 @@ pub mod OtherOutputs
 pub mod Pairing
 pub mod Headlines
 pub mod Leaning
+pub mod Entailing
 pub mod NumberedAlong
 pub mod SameQuads
 pub mod SameTexts
@@ -22,5 +23,7 @@ pub mod SameRuns
 pub mod SameTasks
 pub mod SameComparisons
 pub mod SameLeanings
+pub mod SameEntailments
+pub mod FineEntailments
 pub mod SameOthers
 pub mod Determined

@@ -18,7 +18,7 @@ module _ {K : Type 0} (taken : K → Option Text) (faults : K → ℕ) where
   finds_others file word settings old new (Unsettled tie) p unfailed a = absurd (let e = a.2.0 in cc)
   finds_others file word settings old new (NotFound tie) p unfailed a = tt
   finds_others file word settings old new (Refused refusal) p unfailed a =
-      elim a.1 [ inl r ↦ not_refused settings (file word) p.content refusal.cause p.fine r.1 | inr r ↦ r.2 ]
+      elim a.1 [ inl r ↦ not_refused settings (file word) p.content refusal.cause p.fine r.1 | inr r ↦ r.1 ]
   finds_others file word settings old new (ReadFault place) p unfailed a = p.fine.no_read_failed a.1.1
   finds_others file word settings old new WriteFault p unfailed a = unfailed a.0
   finds_others file word settings old new (WorkLimit place limit) p unfailed a =

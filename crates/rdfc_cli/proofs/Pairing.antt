@@ -19,7 +19,7 @@ use Rattle.rdfc_cli.specs.Reports.{label_in, label_text, pair_line, partner_line
 use Rattle.rdfc_cli.specs.declared.options.Settings.{Settings}
 use Rattle.rdfc_cli.specs.declared.output.Output.{Output}
 use Rattle.rdfc_cli.specs.declared.status.Status.{Status}
-use Rattle.rdfc_cli.specs.declared.status.Status.TheVariants.{Done, Different, NoOther, Usage, Unsettled, NotFound, Refused, ReadFault, WriteFault, WorkLimit, SearchLimit, NoMemory, Undecided}
+use Rattle.rdfc_cli.specs.declared.status.Status.TheVariants.{Done, Different, NotEntailed, NoOther, Usage, Unsettled, NotFound, Refused, ReadFault, WriteFault, WorkLimit, SearchLimit, EntailLimit, NoMemory, Undecided}
 
 -- ---- pairs
 
@@ -84,6 +84,7 @@ module _ (settings : Settings) (content other : Content) (within : IsWithin sett
   pub pair_stop-of_verdict : (status : Status) → IsVerdictStop verdict status → IsPairStop settings content other status
   pair_stop-of_verdict Done s = absurd s
   pair_stop-of_verdict Different s = (within, other_within, subst (IsVerdict (hashing_of settings) content.dataset other.dataset) s v)
+  pair_stop-of_verdict NotEntailed s = absurd s
   pair_stop-of_verdict NoOther s = absurd s
   pair_stop-of_verdict (NotFound tie) s = absurd s
   pair_stop-of_verdict Usage s = absurd s
@@ -95,6 +96,7 @@ module _ (settings : Settings) (content other : Content) (within : IsWithin sett
   pair_stop-of_verdict NoMemory s = tt
   pair_stop-of_verdict (Undecided t u) s = (within, other_within, subst (IsVerdict (hashing_of settings) content.dataset other.dataset) s v)
   pair_stop-of_verdict (SearchLimit limit image) s = absurd s
+  pair_stop-of_verdict (EntailLimit place limit node) s = absurd s
 
 -- ---- labels that are copied
 

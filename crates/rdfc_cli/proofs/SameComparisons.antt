@@ -183,7 +183,7 @@ module _ {K : Type 0} (taken : K → Option Text) (faults : K → ℕ) (file : T
       | inr h ↦ (let f = of_told (file first).told bytes (λ bytes. (content : Content) × Accepts (file first).syntax bytes content × Unit {0}) told h.1 in
           inr (h.0, (f.0, f.1), of_told (file second).told other_bytes (λ bytes. IsCause (file second).syntax bytes refusal.cause) other_told h.2))
     ]
-    | inr r ↦ absurd r.2
+    | inr r ↦ absurd r.1
   ]
   comparison_ends old new (ReadFault place) a = elim a.answers.1 [ inl h ↦ absurd (unread h.1) | inr h ↦ absurd (other_unread h.2) ]
   comparison_ends old new WriteFault a = absurd (a.no_put_failed a.answers.0)

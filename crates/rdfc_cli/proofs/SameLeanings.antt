@@ -89,8 +89,8 @@ module _ {K : Type 0} (taken : K → Option Text) (faults : K → ℕ) (file : T
   leaning_ends old new (Unsettled tie) a = absurd (let e = a.answers.2.0 in cc)
   leaning_ends old new (Refused refusal) a = elim a.answers.1 [
     | inl r ↦ (r.0, inl (of_told (file word).told bytes (λ bytes. IsCause (file word).syntax bytes refusal.cause) told r.1))
-    | inr r ↦ (let f = of_told (file word).told bytes (λ bytes. (content : Content) × Accepts (file word).syntax bytes content × HasGraphName content.dataset.statements) told r.2 in
-        (r.1, inr (r.0, record { content = f.0; accepts = f.1; named = f.2 })))
+    | inr r ↦ (let f = of_told (file word).told bytes (λ bytes. (content : Content) × Accepts (file word).syntax bytes content × HasGraphName content.dataset.statements) told r.1.1 in
+        (r.1.0, inr (r.0, record { content = f.0; accepts = f.1; named = f.2 })))
   ]
   leaning_ends old new (ReadFault place) a = absurd (unread a.answers.1.1)
   leaning_ends old new WriteFault a = absurd (a.no_put_failed a.answers.0)

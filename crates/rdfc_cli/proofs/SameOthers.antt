@@ -171,7 +171,7 @@ module _ {K : Type 0} (taken : K → Option Text) (faults : K → ℕ) (file : T
   other_ends old new (NotFound tie) a = (nothing_taken taken old new a.answers.0, read (λ D. IsWithin settings D × HasSameFormAlong settings.limit tie (hashing_of settings) D) a.answers.1)
   other_ends old new (Refused refusal) a = elim a.answers.1 [
     | inl r ↦ (nothing_taken taken old new a.answers.0, r.0, of_told (file word).told bytes (λ bytes. IsCause (file word).syntax bytes refusal.cause) told r.1)
-    | inr r ↦ absurd r.2
+    | inr r ↦ absurd r.1
   ]
   other_ends old new (ReadFault place) a = absurd (unread a.answers.1.1)
   other_ends old new WriteFault a = absurd (a.no_put_failed a.answers.0)

@@ -47,7 +47,7 @@ module _ {K : Type 0} (taken : K → Option Text) (faults : K → ℕ) where
       record { text = a.answers.0; grown = a.answers.1; content = f.0; accepts = f.1; run = f.2 }
   task_ends file task word bytes settings old new (Refused refusal) told unread a = elim a.answers.1 [
     | inl r ↦ (nothing_taken taken old new a.answers.0, r.0, of_told (file word).told bytes (λ bytes. IsCause (file word).syntax bytes refusal.cause) told r.1)
-    | inr r ↦ absurd r.2
+    | inr r ↦ absurd r.1
   ]
   task_ends file task word bytes settings old new (ReadFault place) told unread a = absurd (unread a.answers.1.1)
   task_ends file task word bytes settings old new WriteFault told unread a = absurd (a.no_put_failed a.answers.0)
@@ -67,7 +67,7 @@ module _ {K : Type 0} (taken : K → Option Text) (faults : K → ℕ) where
   load_ends file n settings old new (Unsettled tie) a =
       let f = a.answers.2 in
       record { text = a.answers.0; grown = a.answers.1; content = f.0; accepts = f.1; run = f.2 }
-  load_ends file n settings old new (Refused refusal) a = elim a.answers.1 [ inl r ↦ absurd r | inr r ↦ absurd r.2 ]
+  load_ends file n settings old new (Refused refusal) a = elim a.answers.1 [ inl r ↦ absurd r | inr r ↦ absurd r.1 ]
   load_ends file n settings old new WriteFault a = absurd (a.no_put_failed a.answers.0)
   load_ends file n settings old new (WorkLimit place limit) a =
       let s = a.answers.1 in

@@ -22,15 +22,16 @@ use Rattle.iso_compare.specs.Comparison.{AreDifferent, AreUndecided}
 use Rattle.other_output.specs.Along.{IsFormAlong, IsWithinLimitAlong, PassesLimitAlong}
 use Rattle.load_document.specs.LoadDocument.{load_document}
 use Rattle.rdfc_cli.specs.Puts.{IsCutShort}
+use Rattle.rdfc_cli.specs.Entailing.{AreInstanceLines, IsNamedAt, IsNotEntailed, IsPastPartialMaps}
 use Rattle.rdfc_cli.specs.Leaning.{IsLeaning, HasGraphName, IsPastMaps}
 use Rattle.rdfc_cli.specs.Reports.{IsTextOf, ArePartnerLines, IsSummary}
 use Rattle.rdfc_cli.specs.Words.{Command, Syntax}
-use Rattle.rdfc_cli.specs.Words.Command.{on_file, compare, lean, other, load}
+use Rattle.rdfc_cli.specs.Words.Command.{on_file, compare, entails, lean, other, load}
 use Rattle.rdfc_cli.specs.Words.Syntax.{nquads, trig}
 use Rattle.rdfc_cli.specs.declared.files.TheConstants.{FILE_LIMIT}
 use Rattle.rdfc_cli.specs.declared.options.Settings.{Settings}
 use Rattle.rdfc_cli.specs.declared.status.Status.{Status}
-use Rattle.rdfc_cli.specs.declared.status.Status.TheVariants.{Done, Different, NoOther, Unsettled, NotFound, Refused, ReadFault, WriteFault, WorkLimit, NoMemory, Undecided, SearchLimit}
+use Rattle.rdfc_cli.specs.declared.status.Status.TheVariants.{Done, Different, NotEntailed, NoOther, Unsettled, NotFound, Refused, ReadFault, WriteFault, WorkLimit, NoMemory, Undecided, SearchLimit, EntailLimit}
 use Rattle.rdfc_cli.specs.declared.status.Cause.{Cause}
 use Rattle.rdfc_cli.specs.declared.status.Cause.TheVariants.{TooLong, NotUtf8, BadLine, RelativeIri, BadTrig, UnknownPrefix, NoBase, TooManyQuads, NotOneGraph}
 
@@ -177,13 +178,16 @@ pub record IsPastAlong (settings : Settings) (D : Dataset) : Type 0 where
 -- ---- the whole text of a command
 
 -- the text that the command writes, where its run finds this; a comparison and `other` have no tie to tell of where
--- they write, and `lean` has no run
+-- they write, and `entails` and `lean` have no run
 abbrev pub IsWritten : (Text → FileSeen) → Command → Settings → Option Tie → Text → Type 0
 IsWritten file (on_file task word) settings found text =
     IfAccepted (file word) (λ content. IsRunText settings found
     (λ ρ. IsTextOf task ρ content.dataset content.labels) content.dataset text)
 IsWritten file (compare first second) settings found text =
     (found ≡ None) × AreBothAccepted (file first) (file second) (λ content other. IsPairing settings content other text)
+IsWritten file (entails first second) settings found text =
+    (found ≡ None) × AreBothAccepted (file first) (file second) (λ content other. AreInstanceLines content.dataset
+    other.dataset content.labels other.labels text)
 IsWritten file (lean word) settings found text =
     (found ≡ None) × IfAccepted (file word) (λ content. IsLeaning settings.map settings.limit content.dataset text)
 IsWritten file (other word) settings found text =
@@ -200,20 +204,27 @@ IsOfFile file (on_file task word) place Fact = (place ≡ 0) × Fact (file word)
 IsOfFile file (compare first second) place Fact =
     ((place ≡ 0) × Fact (file first)) ⊎ ((place ≡ 1) × IfAccepted (file first) (λ content. Unit {0})
     × Fact (file second))
+IsOfFile file (entails first second) place Fact =
+    ((place ≡ 0) × Fact (file first)) ⊎ ((place ≡ 1) × IfAccepted (file first) (λ content. Unit {0})
+    × Fact (file second))
 IsOfFile file (lean word) place Fact = (place ≡ 0) × Fact (file word)
 IsOfFile file (other word) place Fact = (place ≡ 0) × Fact (file word)
 IsOfFile file (load n) place Fact = ⊥
 
--- the file of the command is accepted, and a quad of it has a graph name where the command wants none
-abbrev pub IsNoGraph : (Text → FileSeen) → Command → Type 0
-IsNoGraph file (lean word) = IfAccepted (file word) (λ content. HasGraphName content.dataset.statements)
-IsNoGraph file command = ⊥
+-- the files of the command are accepted, and of the one at this place a quad has a graph name where the command wants
+-- none; of two files it is the first such
+abbrev pub IsNoGraph : (Text → FileSeen) → Command → ℕ → Type 0
+IsNoGraph file (entails first second) place =
+    AreBothAccepted (file first) (file second) (λ content other. IsNamedAt place content.dataset other.dataset)
+IsNoGraph file (lean word) place =
+    (place ≡ 0) × IfAccepted (file word) (λ content. HasGraphName content.dataset.statements)
+IsNoGraph file command place = ⊥
 
 -- the file at this place is refused for what its bytes are, or for what the command wants of its dataset
 abbrev pub IsRefused : (Text → FileSeen) → Command → ℕ → Cause → Type 0
 IsRefused file command place cause =
     IsOfFile file command place (λ seen. IfSome seen.told (λ bytes. IsCause seen.syntax bytes cause))
-    ⊎ ((cause ≡ NotOneGraph) × (place ≡ 0) × IsNoGraph file command)
+    ⊎ ((cause ≡ NotOneGraph) × IsNoGraph file command place)
 
 -- the first dataset of the command whose counted run passes the limit has this place; with `other` that run is either
 -- of the two
@@ -223,6 +234,7 @@ IsPastLimit file (on_file task word) settings place =
 IsPastLimit file (compare first second) settings place =
     AreBothAccepted (file first) (file second) (λ content other. ((place ≡ 0) × IsPast settings content.dataset)
     ⊎ ((place ≡ 1) × IsWithin settings content.dataset × IsPast settings other.dataset))
+IsPastLimit file (entails first second) settings place = ⊥
 IsPastLimit file (lean word) settings place = ⊥
 IsPastLimit file (other word) settings place =
     (place ≡ 0) × IfAccepted (file word) (λ content. IsPast settings content.dataset
@@ -235,6 +247,12 @@ AreCompared file (compare first second) settings Fact =
     AreBothAccepted (file first) (file second) (λ content other. IsWithin settings content.dataset
     × IsWithin settings other.dataset × Fact (hashing_of settings) content.dataset other.dataset)
 AreCompared file command settings Fact = ⊥
+
+-- the command asks whether the graph of one file entails that of another, and this holds of them
+abbrev pub AreAsked : (Text → FileSeen) → Command → (Dataset → Dataset → Type 0) → Type 0
+AreAsked file (entails first second) Fact =
+    AreBothAccepted (file first) (file second) (λ content other. Fact content.dataset other.dataset)
+AreAsked file command Fact = ⊥
 
 -- the command looks for another output of a dataset whose counted run is within the limit, and this holds of it
 abbrev pub IsSought : (Text → FileSeen) → Command → Settings → (Hashing → Dataset → Type 0) → Type 0
@@ -254,11 +272,14 @@ Stops file command settings (Refused refusal) = IsRefused file command refusal.f
 Stops file command settings (ReadFault place) = IsOfFile file command place (λ seen. Rose seen.faults seen.faults_now)
 Stops file command settings (WorkLimit place limit) = (limit ≡ settings.limit) × IsPastLimit file command settings place
 Stops file command settings Different = AreCompared file command settings AreDifferent
+Stops file command settings NotEntailed = AreAsked file command IsNotEntailed
 Stops file command settings NoOther = IsSought file command settings IsDone
 Stops file command settings (NotFound tie) = IsSought file command settings (HasSameFormAlong settings.limit tie)
 Stops file command settings (Undecided s t) = AreCompared file command settings (λ ρ D E. AreUndecided ρ D E s t)
 Stops file command settings (SearchLimit limit image) =
     (limit ≡ settings.limit) × IsPastSearchLimit file command settings image
+Stops file command settings (EntailLimit place limit node) =
+    AreAsked file command (λ G E. (place ≡ 1) × (limit ≡ settings.limit) × IsPastPartialMaps limit node G E)
 Stops file command settings status = ⊥
 
 -- ---- the answer

@@ -1,19 +1,22 @@
 -- What follows where nothing failed and the work is within the limit: each command writes its text whole, or tells that
--- two datasets are not isomorphic, or that it can't tell. Only want of memory comes besides.
+-- two datasets are not isomorphic, that the one graph does not entail the other, or that it can't tell. Only want of
+-- memory comes besides.
 use Rattle.std.specs.Prelude.{◌≡◌, ℕ, ◌⊎◌, List, Option, Some}
 use Rattle.rdf_terms.specs.Vocabulary.{Text, Statement, AreIsomorphic}
 use Rattle.graph_model.specs.Counts.{IsPastSearch}
 use Rattle.graph_model.specs.Graphs.{IsGraph}
 use Rattle.outside.specs.Faults.{Rose}
 use Rattle.canon_model.specs.JoinedTies.{IsSettled}
+use Rattle.entail.specs.Entailment.{Entails, AreWithin}
 use Rattle.load_document.specs.LoadDocument.{load_document}
 use Rattle.rdfc_cli.specs.Answers.{Content, Accepts, FileSeen, Answers, IsWithin, hashing_of}
-use Rattle.rdfc_cli.specs.Words.Command.{on_file, compare, lean, load}
+use Rattle.rdfc_cli.specs.Entailing.{AreGraphs}
+use Rattle.rdfc_cli.specs.Words.Command.{on_file, compare, entails, lean, load}
 use Rattle.rdfc_cli.specs.Words.Syntax.{nquads}
 use Rattle.rdfc_cli.specs.declared.options.Settings.{Settings}
 use Rattle.rdfc_cli.specs.declared.words.Task.{Task}
 use Rattle.rdfc_cli.specs.declared.status.Status.{Status}
-use Rattle.rdfc_cli.specs.declared.status.Status.TheVariants.{Done, Different, Unsettled, NoMemory, Undecided}
+use Rattle.rdfc_cli.specs.declared.status.Status.TheVariants.{Done, Different, NotEntailed, Unsettled, NoMemory, Undecided}
 
 -- a file that is accepted with this content and a counted run within the limit, with no failed call on it
 pub record IsFine (file : FileSeen) (settings : Settings) (content : Content) : Type 0 where
@@ -88,6 +91,48 @@ FindsBijections {K} taken faults =
     (file : Text → FileSeen) (first second : Text) (settings : Settings) (old new : K) (status : Status)
     → AreFineAndAlike (file first) (file second) settings → ¬ (Rose (faults old) (faults new))
     → Answers taken faults file (compare first second) settings old new status → IsWholeText status
+
+-- ---- a graph and another
+
+-- two files that are accepted as graphs, with no failed call on them; no component of the second has more partial maps
+-- into the first than the limit
+pub record AreFineGraphs (first second : FileSeen) (settings : Settings) : Type 0 where
+  pub bytes : Text
+  pub other_bytes : Text
+  pub told : first.told ≡ Some bytes
+  pub other_told : second.told ≡ Some other_bytes
+  pub content : Content
+  pub other : Content
+  pub accepts : Accepts first.syntax bytes content
+  pub accepts_other : Accepts second.syntax other_bytes other
+  pub graphs : AreGraphs content.dataset other.dataset
+  pub within : AreWithin other.dataset.statements content.dataset.statements settings.limit
+  pub no_read_failed : ¬ (Rose first.faults first.faults_now)
+  pub no_other_failed : ¬ (Rose second.faults second.faults_now)
+
+-- it was told whether the one graph entails the other, or memory was refused
+abbrev pub IsAnswered : Status → Type 0
+IsAnswered Done = Unit {0}
+IsAnswered NotEntailed = Unit {0}
+IsAnswered NoMemory = Unit {0}
+IsAnswered status = ⊥
+
+abbrev pub AnswersEntailment : {K : Type 0} → (K → Option Text) → (K → ℕ) → Type 0
+AnswersEntailment {K} taken faults =
+    (file : Text → FileSeen) (first second : Text) (settings : Settings) (old new : K) (status : Status)
+    → AreFineGraphs (file first) (file second) settings → ¬ (Rose (faults old) (faults new))
+    → Answers taken faults file (entails first second) settings old new status → IsAnswered status
+
+-- two such files, of which the first graph entails the second (RDF 1.1 Semantics, section 5)
+pub record AreFineAndEntailed (first second : FileSeen) (settings : Settings) : Type 0 where
+  pub fine : AreFineGraphs first second settings
+  pub entailed : Entails fine.content.dataset.statements fine.other.dataset.statements
+
+abbrev pub FindsInstances : {K : Type 0} → (K → Option Text) → (K → ℕ) → Type 0
+FindsInstances {K} taken faults =
+    (file : Text → FileSeen) (first second : Text) (settings : Settings) (old new : K) (status : Status)
+    → AreFineAndEntailed (file first) (file second) settings → ¬ (Rose (faults old) (faults new))
+    → Answers taken faults file (entails first second) settings old new status → IsWholeText status
 
 -- ---- a graph that is leaned
 

@@ -7,10 +7,10 @@ use Rattle.outside.specs.Faults.{Rose}
 use Rattle.ndegree_hash.specs.Log.{tie_of}
 use Rattle.rdfc_cli.specs.Answers.{FileSeen, Answers}
 use Rattle.rdfc_cli.specs.Words.{Command, Given, IsCommand}
-use Rattle.rdfc_cli.specs.Words.Command.{on_file, compare, lean, other, load}
+use Rattle.rdfc_cli.specs.Words.Command.{on_file, compare, entails, lean, other, load}
 use Rattle.rdfc_cli.specs.declared.options.Settings.{Settings}
 use Rattle.rdfc_cli.specs.declared.status.Status.{Status}
-use Rattle.rdfc_cli.specs.declared.status.Status.TheVariants.{Done, Different, NoOther, Unsettled, NotFound, Refused, WorkLimit, NoMemory, Undecided, SearchLimit}
+use Rattle.rdfc_cli.specs.declared.status.Status.TheVariants.{Done, Different, NotEntailed, NoOther, Unsettled, NotFound, Refused, WorkLimit, NoMemory, Undecided, SearchLimit, EntailLimit}
 
 -- ---- the words
 
@@ -26,6 +26,7 @@ SpellOneCommand =
 abbrev pub file_words : Command → List Text
 file_words (on_file task file) = file ∷ []
 file_words (compare first second) = first ∷ second ∷ []
+file_words (entails first second) = first ∷ second ∷ []
 file_words (lean file) = file ∷ []
 file_words (other file) = file ∷ []
 file_words (load n) = []
@@ -55,10 +56,11 @@ pub record IsPlainAnswer {K : Type 0} (taken : K → Option Text) (faults : K �
 -- ---- two of them
 
 -- The statuses say the same: they are of one kind, with the same cause, place and limit, and a tie that they carry has
--- the same lists. What they carry of an image past the limit may differ.
+-- the same lists. What they carry of an image or a component past the limit may differ.
 abbrev pub AreAlike : Status → Status → Type 0
 AreAlike Done Done = Unit {0}
 AreAlike Different Different = Unit {0}
+AreAlike NotEntailed NotEntailed = Unit {0}
 AreAlike NoOther NoOther = Unit {0}
 AreAlike (Unsettled s) (Unsettled t) = tie_of s ≡ tie_of t
 AreAlike (NotFound s) (NotFound t) = tie_of s ≡ tie_of t
@@ -66,12 +68,19 @@ AreAlike (Refused refusal) (Refused other_refusal) = refusal ≡ other_refusal
 AreAlike (WorkLimit place limit) (WorkLimit other_place other_limit) = (place ≡ other_place) × (limit ≡ other_limit)
 AreAlike (Undecided s t) (Undecided u v) = (tie_of s ≡ tie_of u) × (tie_of t ≡ tie_of v)
 AreAlike (SearchLimit limit image) (SearchLimit other_limit other_image) = limit ≡ other_limit
+AreAlike (EntailLimit place limit node) (EntailLimit other_place other_limit other_node) =
+    (place ≡ other_place) × (limit ≡ other_limit)
 AreAlike status other_status = ⊥
 
--- the one is done, where the other came to an image past the limit
+-- the one is done, where the other came to an image past the limit, or it is said whether there is a map, where the
+-- other came to a component past it
 abbrev pub IsLimitOfOne : Status → Status → Type 0
 IsLimitOfOne Done (SearchLimit limit image) = Unit {0}
 IsLimitOfOne (SearchLimit limit image) Done = Unit {0}
+IsLimitOfOne Done (EntailLimit place limit node) = Unit {0}
+IsLimitOfOne (EntailLimit place limit node) Done = Unit {0}
+IsLimitOfOne NotEntailed (EntailLimit place limit node) = Unit {0}
+IsLimitOfOne (EntailLimit place limit node) NotEntailed = Unit {0}
 IsLimitOfOne status other_status = ⊥
 
 -- both outputs have taken this one text, and nothing else
@@ -81,11 +90,13 @@ pub record TakeOneText (before now other_before other_now : Option Text) : Type 
   pub other_grown : Appends other_before other_now text
 
 -- The statuses say the same, and of `canon`, `hash`, `map`, `ties`, `other` and `load` the outputs have taken one text.
--- Which bijection `compare` writes is not said, and neither is which image `lean` comes to.
+-- Which bijection `compare` writes is not said, nor which map `entails` writes or which image `lean` comes to.
 abbrev pub Agree : Command → Option Text → Option Text → Option Text → Option Text → Status → Status → Type 0
 Agree (on_file task file) before now other_before other_now status other_status =
     AreAlike status other_status × TakeOneText before now other_before other_now
 Agree (compare first second) before now other_before other_now status other_status = AreAlike status other_status
+Agree (entails first second) before now other_before other_now status other_status =
+    AreAlike status other_status ⊎ IsLimitOfOne status other_status
 Agree (lean file) before now other_before other_now status other_status =
     AreAlike status other_status ⊎ IsLimitOfOne status other_status
 Agree (other file) before now other_before other_now status other_status =

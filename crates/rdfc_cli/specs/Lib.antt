@@ -6,6 +6,7 @@ pub mod Puts
 pub mod Notes
 pub mod Reports
 pub mod Leaning
+pub mod Entailing
 pub mod Answers
 pub mod FileFaults
 pub mod Outputs

@@ -9,7 +9,7 @@ use Rattle.rdfc_cli.specs.declared.files.TheConstants.{FILE_LIMIT}
 use Rattle.rdfc_cli.specs.declared.notes.Part.{Part}
 use Rattle.rdfc_cli.specs.declared.notes.Part.TheVariants.{Text as Piece, Number}
 use Rattle.rdfc_cli.specs.declared.status.Status.{Status}
-use Rattle.rdfc_cli.specs.declared.status.Status.TheVariants.{Done, Different, NoOther, Usage, Unsettled, NotFound, Refused, ReadFault, WriteFault, WorkLimit, NoMemory, Undecided, SearchLimit}
+use Rattle.rdfc_cli.specs.declared.status.Status.TheVariants.{Done, Different, NotEntailed, NoOther, Usage, Unsettled, NotFound, Refused, ReadFault, WriteFault, WorkLimit, NoMemory, Undecided, SearchLimit, EntailLimit}
 use Rattle.rdfc_cli.specs.declared.status.Cause.{Cause}
 use Rattle.rdfc_cli.specs.declared.status.Cause.TheVariants.{TooLong, NotUtf8, BadLine, RelativeIri, BadTrig, UnknownPrefix, NoBase, TooManyQuads, NotOneGraph}
 
@@ -33,6 +33,7 @@ cause_text NotOneGraph = codes ": a quad has a graph name"
 abbrev pub status_text : (ℕ → Text) → Status → Text
 status_text word Done = []
 status_text word Different = codes "not isomorphic"
+status_text word NotEntailed = codes "not entailed"
 status_text word NoOther = codes "no other output"
 status_text word Usage = codes "the words are not a command"
 status_text word (Unsettled tie) = word 0 ++ codes ": a tie is unsettled"
@@ -44,6 +45,8 @@ status_text word (WorkLimit place limit) = word place ++ (codes ": work limit " 
 status_text word NoMemory = codes "out of memory"
 status_text word (Undecided s t) = codes "undecided"
 status_text word (SearchLimit limit image) = word 0 ++ (codes ": search limit " ++ (numeral limit ++ codes " passed"))
+status_text word (EntailLimit place limit node) =
+    word place ++ (codes ": entailment limit " ++ (numeral limit ++ codes " passed"))
 
 abbrev pub note_line : (ℕ → Text) → Status → Text
 note_line word status = codes "rdfc: " ++ (status_text word status ++ codes "\n")

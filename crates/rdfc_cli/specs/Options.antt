@@ -6,7 +6,7 @@ use Rattle.canon_model.specs.declared.profile.HashKind.TheVariants.{Sha256}
 use Rattle.canon_model.specs.declared.profile.Related.{Related as Reading}
 use Rattle.canon_model.specs.declared.profile.Related.TheVariants.{Each}
 use Rattle.rdfc_cli.specs.Words.{Command, Given, Syntax, name_word, spelled_option, option_name, HasGoodValue}
-use Rattle.rdfc_cli.specs.Words.Command.{on_file, compare, lean, other, load}
+use Rattle.rdfc_cli.specs.Words.Command.{on_file, compare, entails, lean, other, load}
 use Rattle.rdfc_cli.specs.Words.Given.{limit, hash, related, as_map, as_trig, base}
 use Rattle.rdfc_cli.specs.Words.Syntax.{nquads, trig}
 use Rattle.rdfc_cli.specs.declared.options.TheConstants.{DEFAULT_LIMIT}
@@ -136,6 +136,7 @@ LeavesSyntax chosen = (chosen.trig ≡ false) × (chosen.base ≡ None)
 abbrev pub AreTaken : Command → Chosen → Type 0
 AreTaken (on_file task file) chosen = chosen.map ≡ false
 AreTaken (compare first second) chosen = LeavesProfile chosen × (chosen.map ≡ false)
+AreTaken (entails first second) chosen = LeavesProfile chosen × (chosen.map ≡ false)
 AreTaken (lean file) chosen = LeavesProfile chosen
 AreTaken (other file) chosen = chosen.map ≡ false
 AreTaken (load n) chosen = LeavesSyntax chosen × (chosen.map ≡ false)

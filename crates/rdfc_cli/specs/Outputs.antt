@@ -2,9 +2,12 @@
 use Rattle.std.specs.Prelude.{◌≡◌, ℕ, ◌⊎◌, Option, Some, None}
 use Rattle.std.specs.Io.KnownBytes.{Appends}
 use Rattle.rdf_terms.specs.Vocabulary.{Text, Document, dataset, statements}
+use Rattle.entail.specs.declared.form.EntailStop.{EntailStop}
+use Rattle.entail.specs.declared.form.EntailStop.TheVariants.{NotOneGraph as NotOneGraphEntail, EntailLimit as EntailLimitStop, NoMemory as NoMemoryEntail}
 use Rattle.lean_search.specs.declared.form.LeanStop.{LeanStop}
 use Rattle.lean_search.specs.declared.form.LeanStop.TheVariants.{NotOneGraph as NotOneGraphStop, SearchLimit as SearchLimitStop, NoMemory as NoMemoryStop}
 use Rattle.rdfc_cli.specs.Puts.{IsCutShort}
+use Rattle.rdfc_cli.specs.Entailing.{AreInstanceLines, IsNamedAt, IsNotEntailed, IsPastPartialMaps}
 use Rattle.rdfc_cli.specs.Leaning.{IsLeaning, HasGraphName, IsPastMaps}
 use Rattle.rdfc_cli.specs.Reports.{IsTextOf, IsSummary}
 use Rattle.rdfc_cli.specs.Answers.{IsWithin, IsPast, IsDone, IsRunText, IsOtherText, HasSameFormAlong, IsPastAlong, hashing_of}
@@ -17,7 +20,7 @@ use Rattle.rdfc_cli.specs.declared.words.Work.{Work}
 use Rattle.rdfc_cli.specs.declared.words.Work.TheVariants.{Run, Lean, Other}
 use Rattle.rdfc_cli.specs.declared.status.Cause.TheVariants.{NotOneGraph}
 use Rattle.rdfc_cli.specs.declared.status.Status.{Status}
-use Rattle.rdfc_cli.specs.declared.status.Status.TheVariants.{Done, NoOther, Unsettled, NotFound, Refused, WriteFault, WorkLimit, NoMemory, SearchLimit}
+use Rattle.rdfc_cli.specs.declared.status.Status.TheVariants.{Done, NotEntailed, NoOther, Unsettled, NotFound, Refused, WriteFault, WorkLimit, NoMemory, SearchLimit, EntailLimit}
 
 -- the output of a task for the dataset of this document
 abbrev pub IsTaskOutput : Task → Settings → Document → Output → Type 0
@@ -80,6 +83,30 @@ IsOtherEnd settings d (NotFound tie) =
     IsWithin settings (dataset d) × HasSameFormAlong settings.limit tie (hashing_of settings) (dataset d)
 IsOtherEnd settings d NoMemory = Unit {0}
 IsOtherEnd settings d status = ⊥
+
+-- ---- one graph and another
+
+-- what `entails` writes of the datasets of two documents
+abbrev pub IsEntailOutput : Document → Document → Output → Type 0
+IsEntailOutput g e output =
+    (output.unsettled ≡ None) × AreInstanceLines (dataset g) (dataset e) g.labels e.labels output.text
+
+-- the status that a run ends with which does not say whether the one graph entails the other
+abbrev pub EndsEntail : EntailStop → ℕ → Status → Type 0
+EndsEntail (NotOneGraphEntail place quad) limit status =
+    status ≡ Refused (record { file = place; cause = NotOneGraph })
+EndsEntail (EntailLimitStop node) limit status = status ≡ EntailLimit 1 limit node
+EndsEntail NoMemoryEntail limit status = status ≡ NoMemory
+
+-- why `entails` writes nothing of them
+abbrev pub IsEntailEnd : Settings → Document → Document → Status → Type 0
+IsEntailEnd settings g e NotEntailed = IsNotEntailed (dataset g) (dataset e)
+IsEntailEnd settings g e (Refused refusal) =
+    (refusal.cause ≡ NotOneGraph) × IsNamedAt refusal.file (dataset g) (dataset e)
+IsEntailEnd settings g e (EntailLimit place limit node) =
+    (place ≡ 1) × (limit ≡ settings.limit) × IsPastPartialMaps limit node (dataset g) (dataset e)
+IsEntailEnd settings g e NoMemory = Unit {0}
+IsEntailEnd settings g e status = ⊥
 
 -- ---- by what is done with a file
 

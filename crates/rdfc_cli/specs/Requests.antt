@@ -1,15 +1,15 @@
 -- What the words of a command line were read as.
-use Rattle.std.specs.Prelude.{◌≡◌, List, IfSome, option_copied, codes}
+use Rattle.std.specs.Prelude.{◌≡◌, List, [], ◌∷◌, IfSome, option_copied, codes}
 use Rattle.rdf_terms.specs.Lists.{Text}
 use Rattle.trig_builder.specs.Building.{IsWhole as IsBase}
-use Rattle.rdfc_cli.specs.Words.{Command, Given, Syntax, IsCommand, task_word, command_word, operands, HasGoodOperands}
+use Rattle.rdfc_cli.specs.Words.{Command, Given, Syntax, IsCommand, task_word, command_word, operands, HasGoodOperands, IsFileWord}
 use Rattle.rdfc_cli.specs.Options.{settings_in, syntax_in}
-use Rattle.rdfc_cli.specs.Words.Command.{on_file, compare, lean, other, load}
+use Rattle.rdfc_cli.specs.Words.Command.{on_file, compare, entails, lean, other, load}
 use Rattle.rdfc_cli.specs.Words.Syntax.{nquads, trig}
 use Rattle.rdfc_cli.specs.declared.options.Syntax.{Syntax as ReadSyntax}
 use Rattle.rdfc_cli.specs.declared.options.Syntax.TheVariants.{NQuads, TriG}
 use Rattle.rdfc_cli.specs.declared.words.Command.{Command as ReadCommand}
-use Rattle.rdfc_cli.specs.declared.words.Command.TheVariants.{OnFile, Compare, Load}
+use Rattle.rdfc_cli.specs.declared.words.Command.TheVariants.{OnFile, Compare, Entails, Load}
 use Rattle.rdfc_cli.specs.declared.words.Work.{Work}
 use Rattle.rdfc_cli.specs.declared.words.Work.TheVariants.{Run, Lean, Other}
 use Rattle.rdfc_cli.specs.declared.words.Request.{Request}
@@ -28,6 +28,7 @@ command_on Other file = other file
 abbrev pub command_of : ReadCommand → Command
 command_of (OnFile work file) = command_on work file.now
 command_of (Compare first second) = compare first.now second.now
+command_of (Entails first second) = entails first.now second.now
 command_of (Load number) = load number
 
 abbrev pub syntax_of : ReadSyntax → Syntax
@@ -46,6 +47,12 @@ pub record IsSpelled (word : Text) (behind : List Text) (command : Command) : Ty
   pub word_is : word ≡ command_word command
   pub operands_are : behind ≡ operands command
   pub good : HasGoodOperands command
+
+-- the words behind the options are those of two files
+pub record AreFiles (behind : List Text) (first second : Text) : Type 0 where
+  pub words_are : behind ≡ first ∷ second ∷ []
+  pub first_is : IsFileWord first
+  pub second_is : IsFileWord second
 
 -- the base that files are read with, where there is one, is one
 abbrev pub HasGoodBase : Syntax → Type 0

@@ -19,6 +19,7 @@ use Rattle.rdfc_cli.specs.declared.words.Task.TheVariants.{Canon, Hash as HashTa
 pub data Command : Type 0 where
   on_file : Task → Text → Command
   compare : Text → Text → Command
+  entails : Text → Text → Command
   lean : Text → Command
   other : Text → Command
   load : ℕ → Command
@@ -32,6 +33,7 @@ task_word Ties = codes "ties"
 abbrev pub command_word : Command → Text
 command_word (on_file task file) = task_word task
 command_word (compare first second) = codes "compare"
+command_word (entails first second) = codes "entails"
 command_word (lean file) = codes "lean"
 command_word (other file) = codes "other"
 command_word (load n) = codes "load"
@@ -39,6 +41,7 @@ command_word (load n) = codes "load"
 abbrev pub operands : Command → List Text
 operands (on_file task file) = file ∷ []
 operands (compare first second) = first ∷ second ∷ []
+operands (entails first second) = first ∷ second ∷ []
 operands (lean file) = file ∷ []
 operands (other file) = file ∷ []
 operands (load n) = numeral n ∷ []
@@ -51,6 +54,7 @@ IsFileWord (first ∷ more) = first ≢ 45
 abbrev pub HasGoodOperands : Command → Type 0
 HasGoodOperands (on_file task file) = IsFileWord file
 HasGoodOperands (compare first second) = IsFileWord first × IsFileWord second
+HasGoodOperands (entails first second) = IsFileWord first × IsFileWord second
 HasGoodOperands (lean file) = IsFileWord file
 HasGoodOperands (other file) = IsFileWord file
 HasGoodOperands (load n) = (LEAST_NUMBER ≤ n) × (n ≤ GREATEST_NUMBER)
@@ -59,6 +63,7 @@ HasGoodOperands (load n) = (LEAST_NUMBER ≤ n) × (n ≤ GREATEST_NUMBER)
 abbrev pub file_word : Command → ℕ → Text
 file_word (on_file task file) place = file
 file_word (compare first second) place = if place == 0 then first else second
+file_word (entails first second) place = if place == 0 then first else second
 file_word (lean file) place = file
 file_word (other file) place = file
 file_word (load n) place = codes "load"
@@ -116,9 +121,10 @@ HasGoodValue (limit n) = (LEAST_LIMIT ≤ n) × (n ≤ GREATEST_LIMIT)
 HasGoodValue (base iri) = IsBase iri
 HasGoodValue given = Unit {0}
 
--- a comparison is under the default profile alone, and a lean form under none
+-- a comparison is under the default profile alone, and an entailment and a lean form under none
 abbrev pub HasProfile : Command → Type 0
 HasProfile (compare first second) = ⊥
+HasProfile (entails first second) = ⊥
 HasProfile (lean file) = ⊥
 HasProfile command = Unit {0}
 

@@ -4,7 +4,7 @@ ghost use Rattle.rdf_terms.specs.Lists.{Text};
 ghost use Rattle.outside.specs.Faults.{Rose};
 ghost use Rattle.rdfc_cli.specs.Words.{Command as SpelledCommand, Given, HasGoodOperands, IsCommand, IsNoCommand, file_word};
 ghost use Rattle.rdfc_cli.specs.Options.{settings_in, syntax_in};
-ghost use Rattle.rdfc_cli.specs.Words.Command.{compare, load};
+ghost use Rattle.rdfc_cli.specs.Words.Command.{compare, entails, load};
 ghost use Rattle.rdfc_cli.specs.Requests.{command_of, command_on, syntax_of, HasGoodBase};
 ghost use Rattle.rdfc_cli.specs.Answers.{FileSeen, seen, IsWritten, Stops, Answers};
 ghost use Rattle.rdfc_cli.specs.Outputs.{Delivers, IsWorkOutput, IsWorkEnd};
@@ -12,6 +12,7 @@ ghost use Rattle.rdfc_cli.specs.Notes.{IsNoted, PutsLine, usage_line};
 
 use crate::comparison::output_of_forms;
 use crate::dataset_file::read_dataset;
+use crate::entailment::entailment_output;
 use crate::form::form_of_file;
 use crate::lean_text::lean_output;
 use crate::made::{made_dataset, summary_output};
@@ -92,6 +93,30 @@ fn output_of_pair<S: Shelf>(
     }
 }
 
+// What is written of two graphs. Both files are read whole and held.
+fn output_of_graphs<S: Shelf>(
+    alloc: Global,
+    keys: RandomState,
+    settings: Settings,
+    shelf: &mut S,
+    syntax: Syntax<'_>,
+    first: &str,
+    second: &str,
+) -> Result<Output, Status>
+    requires base { HasGoodBase (syntax_of syntax) }
+    ensures output { IfOk result (λ output. IsWritten (seen (syntax_of syntax.entry) S.told S.faults shelf.old shelf.new) (entails first.now second.now) settings output.unsettled output.text) }
+    ensures stops { IfErr result (Stops (seen (syntax_of syntax.entry) S.told S.faults shelf.old shelf.new) (entails first.now second.now) settings) }
+{
+    let graph = match read_dataset(alloc, keys, shelf, syntax, first) {
+        Ok(graph) => graph,
+        Err(fault) => return Err(fault.status(0)),
+    };
+    match read_dataset(alloc, keys, shelf, syntax, second) {
+        Ok(entailed) => entailment_output(alloc, settings, &graph, &entailed),
+        Err(fault) => Err(fault.status(1)),
+    }
+}
+
 // The summary of the document that is made from a number.
 fn output_of_number(
     alloc: Global,
@@ -131,6 +156,9 @@ fn output_of<S: Shelf>(
         }
         Command::Compare { first, second } => {
             output_of_pair(alloc, keys, settings, shelf, syntax, first, second)
+        }
+        Command::Entails { first, second } => {
+            output_of_graphs(alloc, keys, settings, shelf, syntax, first, second)
         }
         Command::Load { number } => output_of_number(alloc, keys, settings, number),
     }

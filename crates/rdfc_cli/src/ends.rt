@@ -1,11 +1,12 @@
 //! How a run ends, by what stopped a call below it.
 ghost use Rattle.std.specs.Prelude.{◌≡◌};
 ghost use Rattle.rdfc_cli.specs.FileFaults.{IsFaultStatus};
-ghost use Rattle.rdfc_cli.specs.Outputs.{EndsAs, EndsRun};
+ghost use Rattle.rdfc_cli.specs.Outputs.{EndsAs, EndsEntail, EndsRun};
 ghost use Rattle.rdfc_cli.specs.declared.status.Status.TheVariants.{NoMemory as Memory};
 
 use crate::files::FileFault;
 use crate::status::{Cause, Refusal, Status};
+use entail::EntailStop;
 use lean_search::LeanStop;
 use ndegree_hash::Stop;
 use rdf_terms::NoMemory;
@@ -52,5 +53,23 @@ pub(crate) fn status_of_lean(stop: LeanStop, limit: u64) -> Status
         }),
         LeanStop::SearchLimit { image } => Status::SearchLimit { limit, image },
         LeanStop::NoMemory => Status::NoMemory,
+    }
+}
+
+// How a run ends that does not say whether the first graph entails the second, of which the search has this limit.
+pub(crate) fn status_of_entail(stop: EntailStop, limit: u64) -> Status
+    ensures { EndsEntail stop limit result }
+{
+    match stop {
+        EntailStop::NotOneGraph { file, .. } => Status::Refused(Refusal {
+            file,
+            cause: Cause::NotOneGraph,
+        }),
+        EntailStop::EntailLimit { node } => Status::EntailLimit {
+            file: 1,
+            limit,
+            node,
+        },
+        EntailStop::NoMemory => Status::NoMemory,
     }
 }

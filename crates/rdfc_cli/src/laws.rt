@@ -1,6 +1,6 @@
 //! What the definitions of the answer of a run imply. Each law is a contract, and the functions do nothing.
 
-ghost use Rattle.rdfc_cli.specs.Completeness.{FindsBijections, IsComplete, JudgesPairs, LeansGraphs, LoadsNumbers};
+ghost use Rattle.rdfc_cli.specs.Completeness.{AnswersEntailment, FindsBijections, FindsInstances, IsComplete, JudgesPairs, LeansGraphs, LoadsNumbers};
 ghost use Rattle.rdfc_cli.specs.Determined.{RunsAgree, SpellOneCommand};
 ghost use Rattle.rdfc_cli.specs.Headline.{CausesExclude, Headline};
 ghost use Rattle.rdfc_cli.specs.OtherOutputs.{FindsOthers};
@@ -37,6 +37,18 @@ pub fn comparison_is_complete<K: Sink>()
     ensures { FindsBijections K.taken K.faults }
 {}
 
+/// Where two files are accepted, no quad has a graph name, no call failed and no component of the second graph has more
+/// partial maps into the first than the limit, `entails` writes an instance map whole, or answers that there is none,
+/// unless memory is refused.
+pub fn entailment_is_answered<K: Sink>()
+    ensures { AnswersEntailment K.taken K.faults }
+{}
+
+/// Where moreover the first graph entails the second, `entails` writes an instance map whole, unless memory is refused.
+pub fn entailment_is_complete<K: Sink>()
+    ensures { FindsInstances K.taken K.faults }
+{}
+
 /// Where a file is accepted, no quad has a graph name, no call failed and no component of an image of the graph has more
 /// partial maps than the limit, `lean` writes its text whole, unless memory is refused.
 pub fn lean_is_complete<K: Sink>()
@@ -57,7 +69,8 @@ pub fn causes_exclude_one_another()
 
 /// Two runs of the same words that are told the same bytes of each file end alike, where no call failed and memory was not
 /// refused: with one status, and of `canon`, `hash`, `map`, `ties`, `other` and `load` with one text. Of `lean` the one may
-/// be done where the other came to an image past the limit.
+/// be done where the other came to an image past the limit, and of `entails` the one may be done or not entailed where the
+/// other came to a component past it.
 ///
 /// The shelf, the output, the notes, the keys and the machine are those of each run. By the clause `answer` of `run` both
 /// runs answer to one command, with one choice of settings and of the syntax: those that the words spell, which are the only

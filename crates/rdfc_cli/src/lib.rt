@@ -14,6 +14,7 @@ mod comparison;
 mod dataset_file;
 mod decimal;
 mod ends;
+mod entailment;
 mod files;
 mod form;
 pub mod laws;

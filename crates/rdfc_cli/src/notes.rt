@@ -121,6 +121,7 @@ fn put_status<N: Sink>(notes: &mut N, status: &Status, command: &Command<'_>) ->
     match status {
         Status::Done => Ok(()),
         Status::Different => put_all(notes, b"not isomorphic"),
+        Status::NotEntailed => put_all(notes, b"not entailed"),
         Status::NoOther => put_all(notes, b"no other output"),
         Status::Usage => put_all(notes, b"the words are not a command"),
         Status::Unsettled(_) => put_of_file(notes, command.file_word(0), ": a tie is unsettled"),
@@ -141,6 +142,9 @@ fn put_status<N: Sink>(notes: &mut N, status: &Status, command: &Command<'_>) ->
         Status::Undecided(_, _) => put_all(notes, b"undecided"),
         Status::SearchLimit { limit, .. } => {
             put_limit(notes, command.file_word(0), ": search limit ", *limit)
+        }
+        Status::EntailLimit { file, limit, .. } => {
+            put_limit(notes, command.file_word(*file), ": entailment limit ", *limit)
         }
     }
 }

@@ -11,6 +11,8 @@ pub enum Status {
     Done,
     /// The two datasets are not isomorphic (RDF 1.1 Concepts, section 4.1).
     Different,
+    /// The first graph does not entail the second (RDF 1.1 Semantics, section 5).
+    NotEntailed,
     /// Each tie is joined, so that the standard allows no other output.
     NoOther,
     Usage,
@@ -30,6 +32,9 @@ pub enum Status {
     Undecided(Tie, Tie),
     /// An image of the graph, by numbers of its terms, has a component with more partial maps than `limit`.
     SearchLimit { limit: u64, image: QuadList },
+    /// The component of the graph of `file` whose least node is `node`, counted from 0, has more partial maps into the
+    /// other graph than `limit`.
+    EntailLimit { file: u8, limit: u64, node: u32 },
 }
 
 /// A file that was read and is refused. `file` is 0 for the first file of the command, and 1 for the second.
@@ -61,6 +66,7 @@ impl Status {
         match self {
             Status::Done => 0,
             Status::Different => 1,
+            Status::NotEntailed => 1,
             Status::NoOther => 1,
             Status::Usage => 2,
             Status::Unsettled(_) => 3,
@@ -72,6 +78,7 @@ impl Status {
             Status::NoMemory => 8,
             Status::Undecided(_, _) => 9,
             Status::SearchLimit { .. } => 7,
+            Status::EntailLimit { .. } => 7,
         }
     }
 }

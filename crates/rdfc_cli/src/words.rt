@@ -2,9 +2,9 @@
 ghost use Rattle.std.specs.Prelude.{◌≡◌, ◌↔◌, ℕ, map, string_bytes, codes, IsTrue, IfSome, IfNone};
 ghost use Rattle.rdf_terms.specs.Lists.{Text};
 ghost use Rattle.rdfc_cli.specs.Words.{Command as SpelledCommand, IsFileWord, IsNoCommand, file_word};
-ghost use Rattle.rdfc_cli.specs.Words.Command.{compare as compare_files, load as load_number};
+ghost use Rattle.rdfc_cli.specs.Words.Command.{compare as compare_files, entails as entails_file, load as load_number};
 ghost use Rattle.rdfc_cli.specs.Options.{AreTaken, chosen};
-ghost use Rattle.rdfc_cli.specs.Requests.{command_of, command_on, work_word, IsRequest, IsSpelled};
+ghost use Rattle.rdfc_cli.specs.Requests.{command_of, command_on, work_word, AreFiles, IsRequest, IsSpelled};
 ghost use Rattle.rdfc_cli.specs.declared.words.Work.{Work};
 
 use crate::options::{Options, Reading, Settings, Syntax, number_within, read_options};
@@ -40,6 +40,9 @@ pub enum Command<'a> {
     OnFile { work: Work, file: &'a str },
     /// Write the map of the nodes of the first file to those of the second, where the two are isomorphic.
     Compare { first: &'a str, second: &'a str },
+    /// Write a map of the nodes of the second file to terms of the first, where the graph of the first entails that of
+    /// the second.
+    Entails { first: &'a str, second: &'a str },
     /// Write what is counted of the document that is made from a number, and the hash of its canonical form.
     Load { number: u32 },
 }
@@ -74,6 +77,7 @@ impl<'a> Command<'a> {
         match self {
             Command::OnFile { file, .. } => file,
             Command::Compare { first, second } => { if place == 0 { first } else { second } }
+            Command::Entails { first, second } => { if place == 0 { first } else { second } }
             Command::Load { .. } => "load",
         }
     }
@@ -85,6 +89,7 @@ impl<'a> Command<'a> {
         match self {
             Command::OnFile { work, .. } => work.takes(options),
             Command::Compare { .. } => options.leave_the_profile() && options.leave_the_map(),
+            Command::Entails { .. } => options.leave_the_profile() && options.leave_the_map(),
             Command::Load { .. } => options.leave_the_syntax() && options.leave_the_map(),
         }
     }
@@ -131,10 +136,10 @@ fn read_work<'a>(word: &str, operands: &'a [String]) -> Option<Command<'a>>
     }
 }
 
-// The comparison of the two files that the operands name.
-fn read_comparison(operands: &[String]) -> Option<Command<'_>>
-    ensures some { IfSome result (λ command. IsSpelled (codes "compare") (map string_bytes operands.now) (command_of command)) }
-    ensures none { IfNone result ((first second : Text) → ¬ (IsSpelled (codes "compare") (map string_bytes operands.now) (compare_files first second))) }
+// The two files that the operands name.
+fn files_of(operands: &[String]) -> Option<(&str, &str)>
+    ensures some { IfSome result (λ files. AreFiles (map string_bytes operands.now) files.0.now files.1.now) }
+    ensures none { IfNone result ((first second : Text) → ¬ (AreFiles (map string_bytes operands.now) first second)) }
 {
     let [first, second] = operands else {
         return None;
@@ -142,10 +147,28 @@ fn read_comparison(operands: &[String]) -> Option<Command<'_>>
     let first = first.as_str();
     let second = second.as_str();
     if is_file_word(first) && is_file_word(second) {
-        Some(Command::Compare { first, second })
+        Some((first, second))
     } else {
         None
     }
+}
+
+// The comparison of the two files that the operands name.
+fn read_comparison(operands: &[String]) -> Option<Command<'_>>
+    ensures some { IfSome result (λ command. IsSpelled (codes "compare") (map string_bytes operands.now) (command_of command)) }
+    ensures none { IfNone result ((first second : Text) → ¬ (IsSpelled (codes "compare") (map string_bytes operands.now) (compare_files first second))) }
+{
+    let (first, second) = files_of(operands)?;
+    Some(Command::Compare { first, second })
+}
+
+// The entailment of the second of the two files that the operands name.
+fn read_entailment(operands: &[String]) -> Option<Command<'_>>
+    ensures some { IfSome result (λ command. IsSpelled (codes "entails") (map string_bytes operands.now) (command_of command)) }
+    ensures none { IfNone result ((first second : Text) → ¬ (IsSpelled (codes "entails") (map string_bytes operands.now) (entails_file first second))) }
+{
+    let (first, second) = files_of(operands)?;
+    Some(Command::Entails { first, second })
 }
 
 // The document of the number that the operands spell.
@@ -169,6 +192,7 @@ fn read_command<'a>(word: &str, operands: &'a [String]) -> Option<Command<'a>>
 {
     match word {
         "compare" => read_comparison(operands),
+        "entails" => read_entailment(operands),
         "load" => read_load(operands),
         _ => read_work(word, operands),
     }
