@@ -1,0 +1,5 @@
+//! Worked examples of entailment between graphs.
+#![tactic(auto)]
+
+#[cfg(test)]
+mod answers;
