@@ -1,14 +1,13 @@
 -- What the search of a graph answers.
-use Rattle.std.proofs.Common.{◌≡◌, ℕ, zero, suc, ◌+◌, ◌<◌, Bool, true, false, if◌then◌else◌, List, [], ◌∷◌, ◌++◌, length, take, map, get_or, Option, Some, None, refl, sym, ap, ◌∙◌, subst, inl, inr, arith, add-one}
+use Rattle.std.proofs.Common.{◌≡◌, ℕ, zero, suc, ◌+◌, ◌<◌, Bool, true, false, if◌then◌else◌, List, [], ◌∷◌, ◌++◌, length, take, map, get_or, None, refl, sym, ap, ◌∙◌, subst, inl, inr, arith, add-one}
 use Rattle.std.specs.List.{All}
-use Rattle.std.specs.Option.{IfNone}
 use Rattle.std.specs.Ordering.{is_lt, is_gt, ordering_reverse}
 use Rattle.std.specs.declared.cmp.Ordering.{Ordering}
 use Rattle.std.specs.declared.cmp.Ordering.TheVariants.{Less, Equal, Greater}
 use Rattle.std.proofs.lemmas.Cmp.{upto}
 use Rattle.std.proofs.lemmas.List.Elements.{All-from_get_or}
 use Rattle.std.proofs.lemmas.Option.{get_or_from_slice_get, slice_get_within}
-use Rattle.rdf_terms.proofs.Common.{In, AreDistinct, Statement, IsUsed, Document, IsDocument, IsInRange, statement, statements, term_at, graph_name_at, decide_in, from_In-map, All-from_each, In-get_or, each-from_All, map-agree}
+use Rattle.rdf_terms.proofs.Common.{In, Statement, IsUsed, Document, statement, statements, term_at, graph_name_at, decide_in, from_In-map, All-from_each, In-get_or, each-from_All, map-agree}
 use Rattle.rdf_terms.specs.declared.term.Term.TheVariants.{Blank}
 use Rattle.rdf_terms.specs.declared.term.Quad.{Quad}
 use Rattle.dataset_index.specs.QuadOrder.{quad_cmp, Ascend}
@@ -19,16 +18,16 @@ use Rattle.graph_model.specs.Laws.{IsShrunk}
 use Rattle.graph_model.proofs.Maps.{mapped_triple-same}
 use Rattle.map_search.specs.Index.{kept}
 use Rattle.map_search.specs.Marks.{mark_at}
-use Rattle.lean_search.specs.Image.{IsOneGraph, left}
+use Rattle.component_walk.specs.Image.{IsOneGraph, left}
 use Rattle.lean_search.specs.Lean.{map_by, IsLeanForm, IsPastLimit}
 use Rattle.lean_search.specs.Outer.{Marks}
 use Rattle.lean_search.specs.Searched.{IsLeanState, IsSearchedTo, State}
 use Rattle.lean_search.specs.Steps.{IsMapBy, IsNodeMapped, map_by_steps}
 use Rattle.lean_search.specs.declared.steps.Step.{Step}
 use Rattle.lean_search.specs.declared.form.LeanForm.{LeanForm}
-use Rattle.lean_search.proofs.AtNodes.{statement_within}
-use Rattle.lean_search.proofs.Shrinking.{In-kept-quads}
-use Rattle.lean_search.proofs.Walking.{mark_within}
+use Rattle.component_walk.proofs.AtNodes.{statement_within}
+use Rattle.component_walk.proofs.Kept.{In-kept-quads}
+use Rattle.component_walk.proofs.Walking.{mark_within}
 
 -- ---- nodes that are marked
 
@@ -149,17 +148,6 @@ module _ (d : Document) (one : IsOneGraph d) (limit : ℕ) (s : State) (lean : I
     lean = subst (λ qs. IsLean (map (statement d.terms) qs)) (sym quads_are) lean.lean;
     searched = subst (λ qs. (n : ℕ) → IsUsed (map (statement d.terms) qs) n → IsWithinSearch (map (statement d.terms) qs) limit n) (sym quads_are) lean.searched;
   }
-
-pub is_one_graph : (d : Document) (named : Option Quad) → IsDocument d → AreDistinct d.terms → AreDistinct d.quads → All (IsInRange d.terms) d.quads → IfNone named (All (λ q. q.g ≡ None) d.quads)
-    → IfNone named (IsOneGraph d)
-is_one_graph d (Some q) document terms quads range none = tt
-is_one_graph d None document terms quads range none = record {
-  document = document;
-  terms_once = terms;
-  quads_once = quads;
-  in_range = λ q i. each-from_All (IsInRange d.terms) d.quads q range i;
-  unnamed = λ q i. each-from_All (λ q. q.g ≡ None) d.quads q none i;
-}
 
 -- ---- the number that a node's term is taken to
 

@@ -14,9 +14,9 @@ use Rattle.map_search.specs.declared.search.Ending.TheVariants.{Found, Nothing, 
 use Rattle.map_search.proofs.Bridging.{endings_mean_by_terms}
 use Rattle.map_search.proofs.Images.{each_from_is_map, endings_mean}
 use Rattle.map_search.proofs.Telling.{nodes_tell}
-use Rattle.lean_search.specs.Image.{IsOneGraph, IsIndexOf, quads_left}
+use Rattle.component_walk.specs.Image.{IsOneGraph, IsIndexOf, quads_left}
 use Rattle.lean_search.specs.Searched.{AreImages}
-use Rattle.lean_search.proofs.Shrinking.{AreDistinct-kept}
+use Rattle.component_walk.proofs.Kept.{AreDistinct-kept}
 
 module _ (d : Document) (i : IndexView) (one : IsOneGraph d) (index : IsIndexOf d i) (own walk : List ℕ) (limit : ℕ)
     (numbers : AreNumbers d.terms (quads_left d i.live) own walk)

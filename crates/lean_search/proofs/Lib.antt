@@ -1,16 +1,9 @@
 pub mod Searching
 pub mod Hitting
 pub mod Outside
-pub mod AtNodes
-pub mod Walks
-pub mod Walking
 pub mod Shrinking
 pub mod Composing
-pub mod Asking
 pub mod Settling
-pub mod Setting
-pub mod Placing
 pub mod Reaching
 pub mod Finding
-pub mod Making
 pub mod Ending

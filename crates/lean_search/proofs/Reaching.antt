@@ -10,10 +10,10 @@ use Rattle.map_search.specs.Marks.{mark_at}
 use Rattle.map_search.specs.Pattern.{carried, map_of}
 use Rattle.map_search.proofs.Images.{map_of-at, map_of-kept}
 use Rattle.lean_search.specs.Image.{IsPlaceOfWalk, IsReachedFrom}
-use Rattle.lean_search.specs.Places.{ArePlaces}
-use Rattle.lean_search.specs.declared.places.TheConstants.{NONE}
-use Rattle.lean_search.proofs.AtNodes.{place_left, left_place, In-quad_at}
-use Rattle.lean_search.proofs.Setting.{In-take-less, In-take-last, In-take-split}
+use Rattle.component_walk.specs.Places.{ArePlaces}
+use Rattle.component_walk.specs.declared.places.TheConstants.{NONE}
+use Rattle.component_walk.proofs.AtNodes.{place_left, left_place, In-quad_at}
+use Rattle.component_walk.proofs.Setting.{In-take-less, In-take-last, In-take-split}
 use Rattle.lean_search.proofs.Shrinking.{one_quad_place}
 use Rattle.rdf_terms.specs.declared.limits.TheConstants.{MOST_NUMBERS}
 

@@ -1,86 +1,31 @@
 -- The search of a graph, from component to component.
-use Rattle.std.proofs.Common.{◌≡◌, ℕ, suc, ◌+◌, ◌<◌, ◌≤◌, ◌↔◌, Bool, true, false, List, [], ◌∷◌, ◌++◌, length, map, refl, sym, ap, ◌∙◌, subst, inl, inr, arith, true≢false}
+use Rattle.std.proofs.Common.{◌≡◌, ℕ, ◌+◌, ◌<◌, ◌≤◌, ◌↔◌, Bool, true, false, List, [], ◌∷◌, ◌++◌, length, map, refl, sym, ap, ◌∙◌, subst, inl, inr, true≢false}
 use Rattle.std.specs.List.{All}
 use Rattle.std.proofs.lemmas.List.Elements.{All-push, All-nil}
-use Rattle.rdf_terms.proofs.Common.{In, AreDistinct, numbers_below, Statement, IsUsed, Document, statement, statements, term_at, In-map, from_In-map, In-numbers_below, length-numbers_below, All-from_each, AreDistinct-map}
+use Rattle.rdf_terms.proofs.Common.{In, AreDistinct, IsUsed, Document, statement, statements, term_at, All-from_each}
 use Rattle.rdf_terms.specs.declared.term.Term.{Term}
 use Rattle.rdf_terms.specs.declared.term.Term.TheVariants.{Iri, Blank, Literal}
-use Rattle.rdf_terms.specs.declared.term.Quad.{Quad}
-use Rattle.dataset_index.proofs.Building.{AreDistinct-from_map}
 use Rattle.graph_model.specs.Graphs.{mapped, composed}
 use Rattle.graph_model.specs.Components.{IsTight}
 use Rattle.graph_model.specs.Counts.{HasMoreMaps, IsPastSearch}
 use Rattle.graph_model.specs.Laws.{IsSettled}
-use Rattle.graph_model.proofs.Counting.{length-within}
-use Rattle.map_search.specs.Index.{kept, quad_at}
-use Rattle.map_search.specs.Laws.{IsInTriple}
 use Rattle.map_search.specs.Marks.{mark_at}
-use Rattle.map_search.specs.Numbers.{AreNumbers, Agrees, IsSaidBy}
+use Rattle.map_search.specs.Numbers.{Agrees, IsSaidBy}
 use Rattle.map_search.specs.Pattern.{map_of, Misses}
-use Rattle.map_search.proofs.Bridging.{number_is}
-use Rattle.map_search.proofs.Indexing.{In-kept, kept-In}
-use Rattle.lean_search.specs.Image.{IsOneGraph, AreTermsOf, left, quads_left}
+use Rattle.component_walk.specs.Image.{IsOneGraph, left, quads_left}
 use Rattle.lean_search.specs.Outer.{IsSearching, Marks}
 use Rattle.lean_search.specs.Searched.{AreFewInOrder, IsLeanState, IsMarkedAs, IsSearchedAs, IsSettledTo, IsShrinking, IsTurned, IsUnderway, State, TakesStep}
 use Rattle.lean_search.specs.declared.component.Searched.{Searched}
 use Rattle.lean_search.specs.declared.component.Searched.TheVariants.{Tight, Shrunk, PastLimit as Stopped}
 use Rattle.lean_search.specs.Steps.{AreSteps, IsStep, map_by_steps}
-use Rattle.lean_search.specs.Walk.{IsWalk, IsWalkFrom}
+use Rattle.component_walk.specs.Walk.{IsWalkFrom}
 use Rattle.lean_search.specs.declared.steps.Step.{Step}
-use Rattle.lean_search.proofs.AtNodes.{IsLeftAt, left_used, mentioned_end, used_within, In-quad_at}
+use Rattle.component_walk.proofs.Kept.{kept-all}
+use Rattle.component_walk.proofs.AtNodes.{used_within}
 use Rattle.lean_search.proofs.Composing.{agrees_composed}
 use Rattle.lean_search.proofs.Outside.{search_begins, search_shrinks, search_settles, search_goes_on, search_ends}
 use Rattle.lean_search.proofs.Shrinking.{fewer_left, is_image}
-use Rattle.lean_search.proofs.Walks.{IsMapOf-same, IsTight-same, walk_once, walk_used, walk_start, walk_closed, walk_began}
-
--- ---- the numbers of a walk's terms
-
-pub numbers_of : (d : Document) (live : List Bool) (start : ℕ) (walk own : List ℕ) → IsOneGraph d → IsWalkFrom (left d live) start walk → AreTermsOf d walk own
-    → ((k : ℕ) → In k own → k < length d.terms) → AreNumbers d.terms (quads_left d live) own walk
-numbers_of d live start walk own one w terms_are within = record {
-  terms_once = one.terms_once;
-  in_range = λ q i. one.in_range q (there q i);
-  unnamed = λ q i. one.unnamed q (there q i);
-  once = AreDistinct-from_map (term_at d.terms) own (subst AreDistinct (sym terms_are) (AreDistinct-map Blank walk (λ x y i j e. same x y e) (walk_once (left d live) start walk w)));
-  nodes_are = terms_are;
-  used =
-      λ k i. (let p = from_In-map Blank walk (term_at d.terms k) (subst (λ l. In (term_at d.terms k) l) terms_are (In-map (term_at d.terms) own k i))
-      in in_triple k p.0 (within k i) p.2 (left_used d live p.0 (walk_used (left d live) start walk w p.0 p.1)));
-}
-  where
-    same : (x y : ℕ) → Blank x ≡ Blank y → x ≡ y
-    same x y e = cc
-
-    there : (q : Quad) → In q (quads_left d live) → In q d.quads
-    there q i = (let j = In-kept q d.quads live i in subst (λ x. In x d.quads) j.2 (In-quad_at d.quads j.0 j.1))
-
-    in_triple : (k n : ℕ) → k < length d.terms → term_at d.terms k ≡ Blank n → (j : ℕ) × IsLeftAt d live n j → IsInTriple (quads_left d live) k
-    in_triple k n l e p =
-        let r = one.in_range (quad_at d.quads p.0) (In-quad_at d.quads p.0 p.1.within) in
-        record {
-          triple = quad_at d.quads p.0;
-          there = kept-In d.quads live p.0 p.1.within p.1.is_left;
-          end =
-              elim (mentioned_end d one p.0 n p.1.within p.1.mentioned) [
-                | inl f ↦ inl (number_is d.terms one.terms_once k (quad_at d.quads p.0).s l r.s (e ∙ sym f))
-                | inr f ↦ inr (number_is d.terms one.terms_once k (quad_at d.quads p.0).o l r.o (e ∙ sym f))
-              ];
-        }
-
-pub walk_within : (d : Document) (live : List Bool) (walk : List ℕ) → IsOneGraph d → IsWalk (left d live) walk → All (λ n. n < length d.labels) walk
-walk_within d live walk one w = All-from_each (λ n. n < length d.labels) walk (λ n i. used_within d live one n (walk_used (left d live) w.0 walk w.1 n i))
-
-pub walk_some : (G : List Statement) (walk : List ℕ) → IsWalk G walk → 0 < length walk
-walk_some G walk w = (let e = ap length w.1.walk_is in omega arith)
-
--- numbers of terms, each once, are fewer than the places that there may be
-pub own_few : (d : Document) (own : List ℕ) → IsOneGraph d → AreDistinct own → ((k : ℕ) → In k own → k < length d.terms) → length own < 4294967295
-own_few d own one once within =
-    let a : length own ≤ length (numbers_below (length d.terms)) = length-within own (numbers_below (length d.terms)) once (λ k i. In-numbers_below (length d.terms) k (within k i)) in
-    let b : length (numbers_below (length d.terms)) ≡ length d.terms = length-numbers_below (length d.terms) in
-    let c = one.document.draft.terms_bound in
-    let e = one.document.draft.quads_bound in
-    omega arith
+use Rattle.component_walk.proofs.Walks.{IsMapOf-same, IsTight-same, walk_used, walk_start, walk_closed, walk_began}
 
 -- ---- a component that is not settled
 
@@ -194,12 +139,6 @@ searched_same d xs ys limit old new Shrunk same n s = (
 searched_same d xs ys limit old new Stopped same n s = absurd (n refl)
 
 -- ---- the beginning and the end
-
-kept-all : (quads : List Quad) (live : List Bool) → ((k : ℕ) → k < length quads → mark_at live k ≡ true) → kept quads live ≡ quads
-kept-all [] live h = refl
-kept-all (q ∷ qs) [] h = absurd (true≢false (sym (h 0 (omega arith))))
-kept-all (q ∷ qs) (true ∷ bs) h = ap (λ l. q ∷ l) (kept-all qs bs (λ k l. h (suc k) (omega arith)))
-kept-all (q ∷ qs) (false ∷ bs) h = absurd (true≢false (sym (h 0 (omega arith))))
 
 mapped-itself : (t : Term) → t ≡ mapped Blank t
 mapped-itself (Iri t) = refl

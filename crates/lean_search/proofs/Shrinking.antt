@@ -8,27 +8,20 @@ use Rattle.rdf_terms.specs.declared.term.Quad.{Quad}
 use Rattle.rdf_terms.proofs.Adding.{statement_injective}
 use Rattle.graph_model.specs.Graphs.{mapped_triple, CarriesInto, IsImage, IsReached}
 use Rattle.graph_model.proofs.Maps.{by_subject, by_object, image_lies_within}
-use Rattle.map_search.specs.Index.{kept, quad_at, no_quad}
+use Rattle.map_search.specs.Index.{quad_at, no_quad}
 use Rattle.map_search.specs.Marks.{mark_at}
 use Rattle.map_search.specs.Numbers.{IsSaidBy}
 use Rattle.map_search.specs.Pattern.{carried, map_of, IsReachedBy, Misses}
 use Rattle.map_search.proofs.Bridging.{blank-is_node, statement_carried, in_range_carried}
 use Rattle.map_search.proofs.Images.{map_of-kept}
 use Rattle.map_search.proofs.Indexing.{In-kept, kept-In}
-use Rattle.lean_search.specs.Image.{IsOneGraph, AreTermsOf, IsPlaceOfWalk, IsReachedFrom, LeavesReached, left, quads_left}
+use Rattle.component_walk.specs.Image.{IsOneGraph, AreTermsOf, left, quads_left}
+use Rattle.lean_search.specs.Image.{IsPlaceOfWalk, IsReachedFrom, LeavesReached}
 use Rattle.lean_search.specs.Searched.{count_left}
-use Rattle.lean_search.proofs.AtNodes.{In-left, In-quad_at, has_place}
+use Rattle.component_walk.proofs.Kept.{In-kept-quads, AreDistinct-kept}
+use Rattle.component_walk.proofs.AtNodes.{In-left, In-quad_at, has_place}
 
 -- ---- lists
-
-pub In-kept-quads : (q : Quad) (quads : List Quad) (live : List Bool) → In q (kept quads live) → In q quads
-In-kept-quads q quads live i = (let p = In-kept q quads live i in subst (λ x. In x quads) p.2 (In-quad_at quads p.0 p.1))
-
-pub AreDistinct-kept : (quads : List Quad) (live : List Bool) → AreDistinct quads → AreDistinct (kept quads live)
-AreDistinct-kept [] live d = tt
-AreDistinct-kept (q ∷ qs) [] d = tt
-AreDistinct-kept (q ∷ qs) (true ∷ bs) d = (λ i. d.0 (In-kept-quads q qs bs i), AreDistinct-kept qs bs d.1)
-AreDistinct-kept (q ∷ qs) (false ∷ bs) d = AreDistinct-kept qs bs d.1
 
 pub one_quad_place : (quads : List Quad) (j k : ℕ) → AreDistinct quads → j < length quads → k < length quads → quad_at quads j ≡ quad_at quads k → j ≡ k
 one_quad_place quads j k d l m e = one_place quads j k (quad_at quads j) d (slice_get-get_or quads j no_quad l) (slice_get-get_or quads k no_quad m ∙ ap Some (sym e))

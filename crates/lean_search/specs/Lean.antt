@@ -1,5 +1,5 @@
 -- What `lean` answers.
-use Rattle.std.specs.Prelude.{◌≡◌, ℕ, ◌<◌, List, map, length, Some, None, IsSome, slice_get, slice_index, All}
+use Rattle.std.specs.Prelude.{◌≡◌, ℕ, ◌<◌, List, map, length, slice_index, All}
 use Rattle.rdf_terms.specs.Vocabulary.{In, Statement, IsUsed, Document, statement, statements, term_at}
 use Rattle.rdf_terms.specs.declared.term.Term.{Term}
 use Rattle.rdf_terms.specs.declared.term.Quad.{Quad}
@@ -7,6 +7,7 @@ use Rattle.dataset_index.specs.QuadOrder.{Ascend}
 use Rattle.graph_model.specs.Graphs.{IsGraph, IsLean}
 use Rattle.graph_model.specs.Laws.{IsShrunk}
 use Rattle.graph_model.specs.Counts.{IsPastSearch, IsWithinSearch}
+pub use Rattle.component_walk.specs.Named.{IsFirstNamed}
 use Rattle.lean_search.specs.declared.form.LeanForm.{LeanForm}
 use Rattle.lean_search.specs.declared.form.LeanStop.{LeanStop}
 use Rattle.lean_search.specs.declared.form.LeanStop.TheVariants.{NotOneGraph, SearchLimit, NoMemory}
@@ -29,13 +30,6 @@ pub record IsLeanForm (d : Document) (limit : ℕ) (form : LeanForm) : Type 0 wh
   pub shrunk : IsShrunk (statements d) (map_by d.terms form.map) (triples_of d form.quads)
   pub lean : IsLean (triples_of d form.quads)
   pub searched : (n : ℕ) → IsUsed (triples_of d form.quads) n → IsWithinSearch (triples_of d form.quads) limit n
-
--- the first quad with a graph name
-pub record IsFirstNamed (quads : List Quad) (quad : Quad) : Type 0 where
-  pub place : ℕ
-  pub there : slice_get quads place ≡ Some quad
-  pub named : IsSome quad.g
-  pub none_before : (k : ℕ) (q : Quad) → k < place → slice_get quads k ≡ Some q → q.g ≡ None
 
 pub record IsPastLimit (d : Document) (limit : ℕ) (image : List Quad) : Type 0 where
   pub graph : IsGraph (statements d)

@@ -1,9 +1,6 @@
 pub mod Lean
 pub mod Outer
 pub mod Image
-pub mod Walk
 pub mod Steps
-pub mod Places
 pub mod Searched
 pub mod Workspace
-pub mod Asked

@@ -11,7 +11,8 @@ use Rattle.map_search.specs.Numbers.{Agrees}
 use Rattle.map_search.specs.Pattern.{map_of}
 use Rattle.map_search.specs.declared.search.Ending.{Ending}
 use Rattle.map_search.specs.declared.search.Ending.TheVariants.{Found}
-use Rattle.lean_search.specs.Image.{left, LeavesReached}
+use Rattle.component_walk.specs.Image.{left}
+use Rattle.lean_search.specs.Image.{LeavesReached}
 use Rattle.lean_search.specs.Steps.{IsStep, AreSteps, map_by_steps}
 use Rattle.lean_search.specs.Outer.{IsSearching, Marks}
 use Rattle.lean_search.specs.declared.steps.Step.{Step}

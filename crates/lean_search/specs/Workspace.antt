@@ -1,9 +1,9 @@
 -- What the search of a graph works with, between two components.
 use Rattle.std.specs.Prelude.{length}
 use Rattle.rdf_terms.specs.Document.{Document}
-use Rattle.lean_search.specs.Image.{IsIndexOf}
-use Rattle.lean_search.specs.Walk.{IsUnmarked}
-use Rattle.lean_search.specs.Places.{AreNoPlaces}
+use Rattle.component_walk.specs.Image.{IsIndexOf}
+use Rattle.component_walk.specs.Walk.{IsUnmarked}
+use Rattle.component_walk.specs.Places.{AreNoPlaces}
 use Rattle.lean_search.specs.Searched.{State}
 use Rattle.lean_search.specs.declared.workspace.Workspace.{Workspace}
 

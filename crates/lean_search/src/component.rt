@@ -3,20 +3,17 @@ ghost use Rattle.std.specs.Prelude.{◌≡◌, ◌<◌, ◌^◌, IfOk, OnOk, len
 ghost use Rattle.rdf_terms.specs.Lists.{In, AreDistinct};
 ghost use Rattle.rdf_terms.specs.Dataset.{IsUsed};
 ghost use Rattle.map_search.specs.Numbers.{AreNumbers, MeansByTerms};
-ghost use Rattle.lean_search.specs.Image.{IsOneGraph, IsIndexOf, AreTermsOf, left, quads_left};
-ghost use Rattle.lean_search.specs.Places.{ArePlaces};
-ghost use Rattle.lean_search.specs.Walk.{IsUnmarked, IsWalk, IsWalkFrom};
+ghost use Rattle.component_walk.specs.Image.{IsOneGraph, IsIndexOf, AreTermsOf, left, quads_left};
+ghost use Rattle.component_walk.specs.Places.{ArePlaces};
+ghost use Rattle.component_walk.specs.Walk.{IsUnmarked, IsWalk, IsWalkFrom};
 ghost use Rattle.lean_search.specs.Workspace.{IsWorkspace, state_of};
 ghost use Rattle.lean_search.specs.Searched.{IsSearchedAs, AreImages, TakesStep};
 
-use crate::left::node_of;
 use crate::missing::Missing;
-use crate::places::{clear_places, set_places};
-use crate::rows::rows_of;
 use crate::shrink::shrink;
 use crate::steps::Step;
-use crate::walk::walk_from;
 use crate::workspace::Workspace;
+use component_walk::{clear_places, node_of, rows_of, set_places, terms_of, walk_from};
 use dataset_index::Dataset;
 use map_search::{Ending, Index, find_map};
 use rdf_terms::{MOST_NUMBERS, NoMemory, Quad};
@@ -29,19 +26,6 @@ pub(crate) enum Searched {
     Tight,
     Shrunk,
     PastLimit,
-}
-
-// The numbers of the nodes' terms.
-fn terms_of(alloc: Global, graph: &Dataset, walk: &[u32]) -> Result<Vec<u32>, NoMemory>
-    requires { All (λ n. n < length graph.now.labels) walk.now }
-    ensures terms { IfOk result (λ terms. AreTermsOf graph.now walk.now terms.items) }
-    ensures in_range { IfOk result (λ terms. All (λ t. t < length graph.now.terms) terms.items) }
-{
-    let mut terms = Vec::new(alloc);
-    for node in walk {
-        terms.push(graph.term_of(*node))?;
-    }
-    Ok(terms)
 }
 
 // Looks for a map of the nodes of the walk that misses a triple of theirs.

@@ -3,8 +3,8 @@ ghost use Rattle.std.specs.Prelude.{◌≡◌, ℕ, ◌<◌, ◌≤◌, ◌+◌,
 ghost use Rattle.rdf_terms.specs.Dataset.{IsUsed};
 ghost use Rattle.map_search.specs.Index.{kept};
 ghost use Rattle.map_search.specs.Marks.{mark_at};
-ghost use Rattle.lean_search.specs.Image.{IsOneGraph, left, quads_left};
-ghost use Rattle.lean_search.specs.Lean.{IsFirstNamed, IsLeanForm, IsLeanStop};
+ghost use Rattle.component_walk.specs.Image.{IsOneGraph, left, quads_left};
+ghost use Rattle.lean_search.specs.Lean.{IsLeanForm, IsLeanStop};
 ghost use Rattle.lean_search.specs.Workspace.{IsWorkspace, state_of};
 ghost use Rattle.lean_search.specs.Searched.{IsMarkedAs, IsSearchedTo, IsSettledTo, IsTurned, IsUnderway};
 ghost use Rattle.lean_search.specs.Steps.{AreSteps, IsMapBy, IsNodeMapped};
@@ -12,37 +12,13 @@ ghost use Rattle.dataset_index.specs.QuadOrder.{Ascend};
 
 use crate::component::{Searched, search_component, walk_in};
 use crate::form::{LeanForm, LeanStop};
-use crate::left::{is_left, quad_in};
-use crate::marking::mark_all;
 use crate::steps::{Step, composed};
-use crate::workspace::{Workspace, new_workspace, no_marks};
+use crate::workspace::{Workspace, new_workspace};
+use component_walk::{is_left, mark_all, named_quad, no_marks, quad_in};
 use dataset_index::Dataset;
 use map_search::Index;
 use rdf_terms::{MOST_QUADS, NoMemory, NodeList, Quad, QuadList};
 use std::alloc::Global;
-
-// The first quad with a graph name.
-fn first_named(quads: &[Quad]) -> Option<Quad>
-    ensures some { IfSome result (IsFirstNamed quads.now) }
-    ensures none { IfNone result (All (λ q. q.g ≡ None) quads.now) }
-{
-    for quad in quads {
-        if quad.g.is_some() {
-            return Some(*quad);
-        }
-    }
-    None
-}
-
-// The first quad of the graph with a graph name. Where there is none, it is one graph.
-fn named_quad(graph: &Dataset) -> Option<Quad>
-    ensures some { IfSome result (IsFirstNamed graph.now.quads) }
-    ensures none { IfNone result (IsOneGraph graph.now) }
-{
-    let _nodes = graph.node_count();
-    let _terms = graph.terms();
-    first_named(graph.quads())
-}
 
 // Marks the nodes of a tight component as settled.
 fn mark_tight(settled: &mut [bool], nodes: &[u32], searched: Searched)

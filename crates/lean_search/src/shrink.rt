@@ -6,11 +6,11 @@ ghost use Rattle.map_search.specs.Index.{quad_at};
 ghost use Rattle.map_search.specs.Marks.{mark_at};
 ghost use Rattle.map_search.specs.Pattern.{carried, map_of};
 ghost use Rattle.dataset_index.specs.QuadOrder.{Ascend};
-ghost use Rattle.lean_search.specs.Image.{IsOneGraph, IsIndexOf, AreTermsOf, LeavesReached, IsPlaceOfWalk, IsReachedFrom};
-ghost use Rattle.lean_search.specs.Places.{ArePlaces};
+ghost use Rattle.component_walk.specs.Image.{IsOneGraph, IsIndexOf, AreTermsOf};
+ghost use Rattle.lean_search.specs.Image.{LeavesReached, IsPlaceOfWalk, IsReachedFrom};
+ghost use Rattle.component_walk.specs.Places.{ArePlaces};
 
-use crate::left::{places_left, quad_in};
-use crate::places::NONE;
+use component_walk::{NONE, places_left, quad_in};
 use dataset_index::Dataset;
 use map_search::Index;
 use rdf_terms::{MOST_NUMBERS, MOST_QUADS, NoMemory, Quad};

@@ -1,11 +1,11 @@
 //! What the search of a graph works with.
 ghost use Rattle.std.specs.Prelude.{◌≡◌, ◌<◌, ℕ, true, false, [], length, slice_index, IfOk};
 ghost use Rattle.map_search.specs.Marks.{mark_at};
-ghost use Rattle.lean_search.specs.Image.{IsOneGraph};
+ghost use Rattle.component_walk.specs.Image.{IsOneGraph};
 ghost use Rattle.lean_search.specs.Workspace.{IsWorkspace};
 
-use crate::places::NONE;
 use crate::steps::Step;
+use component_walk::{no_marks, no_places};
 use dataset_index::Dataset;
 use map_search::{Index, Marks};
 use rdf_terms::NoMemory;
@@ -20,20 +20,6 @@ pub(crate) struct Workspace {
     pub(crate) place_of: Vec<u32>,
     pub(crate) walked: Vec<bool>,
     pub(crate) ahead: Marks,
-}
-
-fn no_places(alloc: Global, terms: u32) -> Result<Vec<u32>, NoMemory>
-    ensures count { IfOk result (λ places. length places.items ≡ terms) }
-    ensures none { IfOk result (λ places. (t : ℕ) → t < terms → slice_index places.items t ≡ NONE) }
-{
-    Ok(vec![in alloc; NONE; terms as usize]?)
-}
-
-pub(crate) fn no_marks(alloc: Global, count: u32) -> Result<Vec<bool>, NoMemory>
-    ensures count { IfOk result (λ marks. length marks.items ≡ count) }
-    ensures none { IfOk result (λ marks. (k : ℕ) → k < count → mark_at marks.items k ≡ false) }
-{
-    Ok(vec![in alloc; false; count as usize]?)
 }
 
 // The workspace for the search of the graph, of which all is left.

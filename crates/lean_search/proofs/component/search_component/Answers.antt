@@ -1,10 +1,11 @@
 use Rattle.std.proofs.Common.{ℕ, ◌↔◌, IfOk, ◌∙◌, subst}
 use Rattle.rdf_terms.specs.Lists.{In}
-use Rattle.lean_search.specs.Image.{left}
+use Rattle.component_walk.specs.Image.{left}
 use Rattle.lean_search.specs.Workspace.{state_of}
 use Rattle.lean_search.specs.Searched.{IsSearchedAs, State}
-use Rattle.lean_search.proofs.Settling.{searched_same, walk_within}
-use Rattle.lean_search.proofs.Walks.{same_nodes, walk_used}
+use Rattle.component_walk.proofs.Numbering.{walk_within}
+use Rattle.lean_search.proofs.Settling.{searched_same}
+use Rattle.component_walk.proofs.Walks.{same_nodes, walk_used}
 use Rattle.lean_search.proofs.component.search_component.Goals as goal
 
 pub most_bound-start-requires-clause-within : goal.most_bound-start-requires-clause-within

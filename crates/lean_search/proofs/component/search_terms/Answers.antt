@@ -2,7 +2,7 @@ use Rattle.std.proofs.Common.{◌≡◌, ◌<◌, length, subst}
 use Rattle.std.specs.List.{All}
 use Rattle.map_search.specs.Numbers.{IsSaidBy, MeansByTerms}
 use Rattle.map_search.specs.Pattern.{map_of, Misses}
-use Rattle.lean_search.specs.Image.{quads_left}
+use Rattle.component_walk.specs.Image.{quads_left}
 use Rattle.lean_search.specs.Searched.{AreImages}
 use Rattle.lean_search.specs.Workspace.{state_of}
 use Rattle.lean_search.proofs.Settling.{step_shrinks}

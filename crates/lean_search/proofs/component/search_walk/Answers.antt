@@ -1,6 +1,6 @@
 use Rattle.std.proofs.Common.{◌<◌, length}
-use Rattle.lean_search.proofs.Settling.{numbers_of, own_few, walk_some, walk_within}
-use Rattle.lean_search.specs.Image.{left}
+use Rattle.component_walk.proofs.Numbering.{numbers_of, own_few, walk_some, walk_within}
+use Rattle.component_walk.specs.Image.{left}
 use Rattle.lean_search.proofs.component.search_walk.Goals as goal
 use Rattle.rdf_terms.proofs.MadeLists.{each-from_All}
 

@@ -1,6 +1,6 @@
 use Rattle.std.proofs.Common.{◌≡◌, ◌+◌, ◌∷◌, [], length, get_or, sym, ap, ◌∙◌, subst, arith, length-append}
 use Rattle.lean_search.specs.Steps.{IsNodeMapped}
-use Rattle.lean_search.proofs.Asking.{push_each}
+use Rattle.component_walk.proofs.Asking.{push_each}
 use Rattle.lean_search.proofs.search.nodes_mapped.Goals as goal
 
 pub loop-node-preserved : goal.loop-node-preserved

@@ -2,7 +2,7 @@ use Rattle.std.proofs.Common.{◌≡◌, ◌<◌, length, sym, subst, arith}
 use Rattle.map_search.specs.Marks.{mark_at}
 use Rattle.lean_search.specs.Workspace.{state_of}
 use Rattle.lean_search.specs.Searched.{IsUnderway}
-use Rattle.lean_search.proofs.Making.{unmarked_from_all}
+use Rattle.component_walk.proofs.Making.{unmarked_from_all}
 use Rattle.lean_search.proofs.Settling.{underway_begins}
 use Rattle.lean_search.proofs.search.search.Goals as goal
 

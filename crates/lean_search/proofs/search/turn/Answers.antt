@@ -1,10 +1,11 @@
 use Rattle.std.proofs.Common.{◌<◌, length, sym, subst}
 use Rattle.std.specs.List.{All}
-use Rattle.lean_search.specs.Image.{left}
+use Rattle.component_walk.specs.Image.{left}
 use Rattle.lean_search.specs.Workspace.{state_of}
 use Rattle.lean_search.specs.Searched.{IsMarkedAs, IsSearchedAs, State}
-use Rattle.lean_search.specs.Walk.{IsWalk, IsWalkFrom}
-use Rattle.lean_search.proofs.Settling.{turned, walk_within}
+use Rattle.component_walk.specs.Walk.{IsWalk, IsWalkFrom}
+use Rattle.component_walk.proofs.Numbering.{walk_within}
+use Rattle.lean_search.proofs.Settling.{turned}
 use Rattle.lean_search.proofs.search.turn.Goals as goal
 
 pub search_component-requires-clause-walk : goal.search_component-requires-clause-walk

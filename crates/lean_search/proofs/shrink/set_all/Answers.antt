@@ -1,5 +1,5 @@
 use Rattle.std.proofs.Common.{◌+◌, false, ◌∙◌, sym, subst}
-use Rattle.lean_search.proofs.Setting.{AreSet, set_next}
+use Rattle.component_walk.proofs.Setting.{AreSet, set_next}
 use Rattle.lean_search.proofs.shrink.set_all.Goals as goal
 
 pub loop-place-preserved : goal.loop-place-preserved

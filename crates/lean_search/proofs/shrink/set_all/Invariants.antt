@@ -1,5 +1,5 @@
 use Rattle.std.proofs.Common.{◌≡◌, false}
-use Rattle.lean_search.proofs.Setting.{AreSet}
+use Rattle.component_walk.proofs.Setting.{AreSet}
 use Rattle.lean_search.proofs.shrink.set_all.Given as goal
 
 abbrev pub invariant-loop-place : goal.invariant-loop-place

@@ -1,5 +1,5 @@
 use Rattle.std.proofs.Common.{◌≡◌, ◌<◌, length, ap, ◌∙◌, subst, sym, arith}
-use Rattle.lean_search.proofs.Making.{unmarked_from_all}
+use Rattle.component_walk.proofs.Making.{unmarked_from_all}
 use Rattle.lean_search.proofs.workspace.new_workspace.Goals as goal
 
 pub returns-clause-workspace : goal.returns-clause-workspace
