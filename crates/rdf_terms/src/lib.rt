@@ -33,6 +33,7 @@ mod pair_list;
 mod parsed;
 mod quad_hash;
 mod quad_list;
+mod recent;
 mod table;
 mod term;
 mod term_ref;

@@ -28,9 +28,9 @@ pub(crate) fn number_terms(
 {
     let s = terms.intern_known(alloc, quad.subject, known.subject)?;
     let o = terms.intern_known(alloc, quad.object, known.object)?;
-    let p = terms.intern_ref(alloc, quad.predicate)?;
+    let p = terms.intern_again(alloc, quad.predicate)?;
     let g = match quad.graph_name {
-        Some(graph_name) => Some(terms.intern_ref(alloc, graph_name)?),
+        Some(graph_name) => Some(terms.intern_again(alloc, graph_name)?),
         None => None,
     };
     Ok(Quad { s, p, o, g })

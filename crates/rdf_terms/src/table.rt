@@ -12,6 +12,7 @@ ghost use Rattle.rdf_terms.specs.declared.term.Term.TheVariants.{Blank};
 
 use crate::ends::{HashedEnds, KnownEnds, find_ends};
 use crate::hashed_term::{HashedTerm, HashedTermRef};
+use crate::recent::RecentNumbers;
 use crate::{MOST_NUMBERS, NoMemory, StatementRef, Term, TermRef};
 use indexmap::IndexSet;
 use std::alloc::Global;
@@ -25,6 +26,8 @@ pub struct TermTable {
     // Each hash is that of its term under the keys. The hasher of the set hashes that number once
     // more, and needs no key.
     terms: IndexSet<HashedTerm>,
+    // Those of predicates and graph names, of which a document has few.
+    recent: RecentNumbers,
 }
 
 impl Model for TermTable {
@@ -58,6 +61,7 @@ impl TermTable {
         TermTable {
             keys,
             terms: IndexSet::new(alloc),
+            recent: RecentNumbers::new(),
         }
     }
 
@@ -66,7 +70,11 @@ impl TermTable {
         ensures { IfOk result (λ table. table ≡ []) }
     {
         let terms = IndexSet::with_capacity(alloc, terms)?;
-        Ok(TermTable { keys, terms })
+        Ok(TermTable {
+            keys,
+            terms,
+            recent: RecentNumbers::new(),
+        })
     }
 
     /// How many terms there are, which is the number that the next new one gets.
@@ -105,6 +113,35 @@ impl TermTable {
             return Ok(index as u32);
         }
         self.intern(term.to_term(alloc)?)
+    }
+
+    // The number, where it is that of the term.
+    fn number_if(&self, number: u32, term: TermRef<'_>) -> Option<u32>
+        ensures { IfSome result (λ n. slice_get self.now n ≡ Some (term_of term.entry)) }
+    {
+        match self.get(number) {
+            Some(known) if term.is(known) => Some(number),
+            _ => None,
+        }
+    }
+
+    // The same as `intern_ref`, of a term that is likely to have come before: a predicate or a graph
+    // name, whose number is then mostly at hand.
+    pub(crate) fn intern_again(&mut self, alloc: Global, term: TermRef<'_>) -> Result<u32, NoMemory>
+        requires { length self.old < MOST_NUMBERS }
+        ensures ok { IfOk result (Interns self.old self.new (term_of term.entry)) }
+        ensures err { OnErr result (self.new ≡ self.old) }
+        ensures distinct { AreDistinct self.new }
+    {
+        let TermRef::Iri(name) = term else {
+            return self.intern_ref(alloc, term);
+        };
+        if let Some(number) = self.number_if(self.recent.get(name), term) {
+            return Ok(number);
+        }
+        let number = self.intern_ref(alloc, term)?;
+        self.recent.set(name, number);
+        Ok(number)
     }
 
     pub fn get(&self, number: u32) -> Option<&Term>
@@ -177,7 +214,7 @@ impl TermTable {
         requires distinct { AreDistinct (map (relabel_term (number_in numbers.now)) self) }
         ensures { IfOk result (λ t. t ≡ map (relabel_term (number_in numbers.now)) self) }
     {
-        let TermTable { keys, terms } = self;
+        let TermTable { keys, terms, .. } = self;
         let mut fresh = TermTable::new(alloc, keys);
         for entry in terms {
             fresh.intern(renumbered_term(entry.term, numbers))?;
