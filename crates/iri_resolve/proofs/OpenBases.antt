@@ -9,7 +9,7 @@ use Rattle.rdf_terms.proofs.Common.{Text}
 use Rattle.iri_resolve.specs.Components.{Components, components, has_authority}
 use Rattle.iri_resolve.specs.DotSegments.{without_dot_segments}
 use Rattle.iri_resolve.specs.Resolution.{target, merged, up_to_last_slash, begins_with_slash, before_colon, behind, recomposed, resolved}
-use Rattle.iri_resolve.specs.PlainPaths.{IsDotless, IsUnmarked, Follows, IsPlain, IsOpen}
+use Rattle.iri_resolve.specs.PlainPaths.{path_alone, IsDotless, IsUnmarked, Follows, IsPlain, IsOpen}
 use Rattle.iri_resolve.proofs.Dotless.{is_slash, without_dot_segments-dotless, IsDotless-behind, IsDotless-slash}
 use Rattle.iri_resolve.proofs.Targets.{target-path, path-merged, up_to_last_slash-found}
 
@@ -99,7 +99,8 @@ module _ (base reference front path : Text) (end : ℕ) (whole : base ≡ front 
   cut_there =
       let p = slash_at path slashed in
       let len : length base ≡ length front + length path = ap length whole ∙ length-append front path in
-      let inside : (length front + p.0 ≤ end) = le_unless end (length front + p.0) (λ l. last (length front + p.0) l (omega (arith, len, p.1)) (ap (λ t. get_or t (length front + p.0) 0) whole ∙ get_or-append-add front path p.0 0 ∙ p.2)) in
+      let inside : length front + p.0 ≤ end = le_unless end (length front + p.0) (λ l.
+      last (length front + p.0) l (omega (arith, len, p.1)) (ap (λ t. get_or t (length front + p.0) 0) whole ∙ get_or-append-add front path p.0 0 ∙ p.2)) in
       cut_at (end - length front) (omega (arith, inside))
 
 pub slash-in_open : (base : Text) → IsOpen base → ((i : ℕ) → i < length base → get_or base i 0 ≢ 47) → ⊥
@@ -111,24 +112,25 @@ slash-in_open base o none =
 -- ---- what is resolved
 
 merged-open : (scheme authority : Option Text) (path reference : Text) → nat_eq (length path) 0 ≡ false →
-    merged (record { scheme = scheme; authority = authority; path = path; query = None; fragment = None }) reference ≡ up_to_last_slash path ++ reference
+    merged (path_alone scheme authority path) reference ≡ up_to_last_slash path ++ reference
 merged-open scheme None path reference e = refl
 merged-open scheme (Some authority) path reference e = rw e refl
 
 -- a front, and a path behind it
 abbrev composed : Text → Option Text → Text → Components
-composed scheme authority path = record { scheme = Some scheme; authority = authority; path = path; query = None; fragment = None }
+composed scheme = path_alone (Some scheme)
 
-recomposed-composed : (scheme front path : Text) (authority : Option Text) → front ≡ before_colon (Some scheme) ++ behind (codes "//") authority → recomposed (composed scheme authority path) ≡ front ++ path
+recomposed-composed : (scheme front path : Text) (authority : Option Text) → front ≡ before_colon (Some scheme) ++ behind (codes "//") authority
+    → recomposed (composed scheme authority path) ≡ front ++ path
 unfolding recomposed
 recomposed-composed scheme front path authority e = append-nil _ ∙ append-nil _ ∙ ap (λ t. t ++ path) (sym e)
 
 target-plain : (scheme : Text) (authority : Option Text) (path reference : Text) → nat_eq (length path) 0 ≡ false → nat_eq (length reference) 0 ≡ false → begins_with_slash reference ≡ false
-    → target (composed scheme authority path) (record { scheme = None; authority = None; path = reference; query = None; fragment = None })
+    → target (composed scheme authority path) (path_alone None None reference)
     ≡ composed scheme authority (without_dot_segments (up_to_last_slash path ++ reference))
 target-plain scheme authority path reference some some' below =
     let base = composed scheme authority path in
-    let plain : Components = record { scheme = None; authority = None; path = reference; query = None; fragment = None } in
+    let plain : Components = path_alone None None reference in
     sym (target-path base plain refl refl some')
     ∙ ap (composed scheme authority) (sym (path-merged base plain below some') ∙ ap without_dot_segments (merged-open (Some scheme) authority path reference some))
 

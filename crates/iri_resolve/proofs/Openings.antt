@@ -10,7 +10,7 @@ use Rattle.rdf_terms.proofs.Common.{Text, HasScheme}
 use Rattle.iri_resolve.specs.Scheme.{begins_with_scheme}
 use Rattle.iri_resolve.specs.Components.{Components, components, before, after, from, authority_of, path_of, has_authority}
 use Rattle.iri_resolve.specs.Resolution.{begins_with_slash, before_colon, behind}
-use Rattle.iri_resolve.specs.PlainPaths.{IsDotless, IsUnmarked, IsPlain, IsOpen}
+use Rattle.iri_resolve.specs.PlainPaths.{path_alone, IsDotless, IsUnmarked, IsPlain, IsOpen}
 use Rattle.iri_resolve.proofs.Dotless.{is_slash}
 use Rattle.iri_resolve.proofs.Schemes.{begins_with_scheme-HasScheme}
 use Rattle.iri_resolve.proofs.ResolvedSchemes.{position-colon, components_scheme}
@@ -102,7 +102,7 @@ after-unmarked c text none = rw none refl
 
 -- the components of a rest without marks
 plain_rest : (scheme : Option Text) (rest : Text) → IsUnmarked rest
-    → behind_scheme scheme rest ≡ record { scheme = scheme; authority = authority_of rest; path = path_of rest; query = None; fragment = None }
+    → behind_scheme scheme rest ≡ path_alone scheme (authority_of rest) (path_of rest)
 plain_rest scheme rest u =
     let w = before-whole 35 rest u.number in
     let v = ap (before 63) w ∙ before-whole 63 rest u.question in
@@ -154,7 +154,7 @@ module _ (base : Text) (h : HasScheme base) where
       append_assoc (before_colon (Some (scheme base h))) (behind (codes "//") authority) path ∙ append_assoc (scheme base h) (codes ":") (behind (codes "//") authority ++ path)
 
   abbrev with : Option Text → Text → Components
-  with authority path = record { scheme = Some (scheme base h); authority = authority; path = path; query = None; fragment = None }
+  with authority path = path_alone (Some (scheme base h)) authority path
 
   parts-none : (path : Text) → has_authority path ≡ false → IsUnmarked path → components (front_with None ++ path) ≡ with None path
   parts-none path follows u = ap components (spelled-with None path) ∙ components-scheme base h path ∙ plain_rest (Some (scheme base h)) path u ∙ rw follows refl
@@ -259,7 +259,7 @@ module _ (reference : Text) (not_own : (is_some (components reference).scheme ||
   no_marks : IsUnmarked reference
   no_marks = (unmarked-rest reference (sym (ap (λ c. is_some c.query) bare) ∙ no_query) (sym (ap (λ c. is_some c.fragment) bare) ∙ no_fragment)).0
 
-  parted : components reference ≡ record { scheme = None; authority = authority_of reference; path = path_of reference; query = None; fragment = None }
+  parted : components reference ≡ path_alone None (authority_of reference) (path_of reference)
   parted = bare ∙ plain_rest None reference no_marks
 
   not_authority : has_authority reference ≡ false

@@ -1,11 +1,10 @@
 -- Paths that stay as they are where dot segments are removed, and bases that such a path can be put behind.
-use Rattle.std.specs.Prelude.{◌≡◌, ◌≢◌, ◌<◌, false, true, codes, [], ◌++◌, length, take, drop, Option, Some, None}
+use Rattle.std.specs.Prelude.{◌≡◌, ◌≢◌, ◌==◌, ◌<◌, false, true, codes, [], ◌++◌, length, take, drop, Option, Some, None}
 use Rattle.std.specs.List.{list_any}
 use Rattle.rdf_terms.specs.Lists.{Text}
-use Rattle.iri_resolve.specs.Components.{components, slash, question_mark, number_sign, has_authority}
+use Rattle.iri_resolve.specs.Components.{Components, components, slash, question_mark, number_sign, has_authority}
 use Rattle.iri_resolve.specs.DotSegments.{first_segment_len}
 use Rattle.iri_resolve.specs.Resolution.{begins_with_slash, before_colon, behind}
-use Rattle.std.specs.Prelude.{◌==◌}
 
 -- a segment, with the `/` before it, where there is one, that is no dot segment (RFC 3986, section 3.3)
 pub record IsPlainSegment (segment : Text) : Type 0 where
@@ -30,9 +29,19 @@ abbrev pub Follows : Option Text → Text → Type 0
 Follows None path = has_authority path ≡ false
 Follows (Some authority) path = begins_with_slash path ≡ true
 
+-- a path behind a scheme and an authority, where there are some, with no query and no fragment
+abbrev pub path_alone : Option Text → Option Text → Text → Components
+path_alone scheme authority path = record {
+  scheme = scheme;
+  authority = authority;
+  path = path;
+  query = None;
+  fragment = None;
+}
+
 -- a reference that is a path with no dot segment, which does not begin with `/`
 pub record IsPlain (reference : Text) : Type 0 where
-  pub parts : components reference ≡ record { scheme = None; authority = None; path = reference; query = None; fragment = None }
+  pub parts : components reference ≡ path_alone None None reference
   pub some : 0 < length reference
   pub below : begins_with_slash reference ≡ false
   pub unmarked : IsUnmarked reference
@@ -52,4 +61,4 @@ pub record IsOpen (base : Text) : Type 0 where
   pub slashed : list_any (λ b. b == slash) path ≡ true
   -- any such path behind that front is the path
   pub parts : (other : Text) → Follows authority other → IsUnmarked other →
-      components (front ++ other) ≡ record { scheme = Some scheme; authority = authority; path = other; query = None; fragment = None }
+      components (front ++ other) ≡ path_alone (Some scheme) authority other
